@@ -1,0 +1,44 @@
+//! The plain data of the ITRON TCP/IP stack: return codes, numbers of objects, requests, events and entries of a history.
+#![tactic(auto)]
+
+mod answer;
+mod bytes;
+mod conf;
+mod context;
+mod entry;
+mod er;
+mod event;
+mod handler;
+mod id;
+mod kernel_request;
+mod list;
+mod mark;
+mod no_memory;
+mod request;
+mod small;
+mod spelling;
+mod timeout;
+
+pub use answer::Ans;
+pub use bytes::Bytes;
+pub use conf::{CycConf, CycDecl, DtqDecl, FlgDecl, KConf, SemDecl, SyncConf, TaskConf, TaskDecl};
+pub use context::Ctx;
+pub use entry::{CallEnd, Entry};
+pub use er::{
+    E_BOVR, E_CLS, E_CTX, E_DLT, E_ID, E_ILUSE, E_NOEXS, E_OBJ, E_OK, E_PAR, E_QOVR, E_RLWAI,
+    E_SYS, E_TMOUT, E_WBLK, Er,
+};
+pub use event::Event;
+pub use handler::{FnCode, Handler};
+pub use id::{CallNo, CepId, EndPt, NodeId, ObjId, PackNo, RepId, TaskId};
+pub use kernel_request::KReq;
+pub use list::List;
+pub use mark::{Dir, Mark};
+pub use no_memory::NoMemory;
+pub use request::Req;
+pub use small::Small;
+pub use spelling::spell_into;
+pub use timeout::Tmo;
+
+#[cfg(test)]
+mod tests;
