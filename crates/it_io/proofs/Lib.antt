@@ -1,0 +1,4 @@
+pub mod Kept
+pub mod Pieces
+pub mod Put
+pub mod Taken

@@ -1,0 +1,135 @@
+use super::{
+    Failed, MemSink, MemSource, ReadErr, Source, StdSink, StdSource, WriteErr, read_all, write_all,
+};
+use std::io;
+use std::io::{Error, ErrorKind, Read};
+use std::test::Fail;
+
+#[test]
+fn reads_to_the_end_within_the_limit(rt: HostRuntime) -> Result<(), Fail> {
+    for (limit, want) in [(10, Ok(10)), (9, Err(ReadErr::TooBig))] {
+        let bytes = b"0123456789".to_vec(rt.alloc())?;
+        let mut source = MemSource::new(bytes, 4, Vec::new(rt.alloc()));
+        let read = read_all(rt.alloc(), &mut source, limit);
+        assert_eq!(rt; read.map(|all| all.len()), want, "limit {limit}");
+    }
+    Ok(())
+}
+
+#[test]
+fn a_failing_read_takes_no_byte(rt: HostRuntime) -> Result<(), Fail> {
+    let bytes = b"0123456789".to_vec(rt.alloc())?;
+    let mut source = MemSource::new(bytes, 4, [2].to_vec(rt.alloc())?);
+    assert_eq!(rt; read_all(rt.alloc(), &mut source, 10), Err(ReadErr::Fault));
+    assert_eq!(rt; source.left(), b"456789".as_slice());
+    Ok(())
+}
+
+#[test]
+fn a_failing_write_tells_how_much_was_written(rt: HostRuntime) -> Result<(), Fail> {
+    let text = b"itron 1\nlink 1 0 0 0\n";
+    for (room, fail, want) in [
+        (21, 9, Ok(())),
+        (21, 2, Err(WriteErr::Fault(10))),
+        (12, 9, Err(WriteErr::Fault(12))),
+    ] {
+        let mut sink = MemSink::new(rt.alloc(), room, 10, [fail].to_vec(rt.alloc())?)?;
+        assert_eq!(rt;
+            write_all(&mut sink, text),
+            want,
+            "room {room}, fail {fail}"
+        );
+        let written = match want {
+            Ok(()) => text.len(),
+            Err(WriteErr::Fault(n)) => n,
+        };
+        assert_eq!(rt; text.starts_with(sink.written()), true);
+        assert_eq!(rt; sink.written().len(), written);
+    }
+    Ok(())
+}
+
+const TEXT: &[u8] = b"0123456789abcdefghijABCDEFGHIJ";
+
+/// For pieces of 1 and of 10 bytes: the first, a middle and the last of the calls that read the text and its end, and how
+/// many bytes the calls before it took.
+const FAILING_READS: [(usize, u64, usize); 6] = [
+    (1, 1, 0),
+    (1, 16, 15),
+    (1, 31, 30),
+    (10, 1, 0),
+    (10, 2, 10),
+    (10, 4, 30),
+];
+
+#[test]
+fn each_failing_read_is_told_at_its_call(rt: HostRuntime) -> Result<(), Fail> {
+    for (piece, call, taken) in FAILING_READS {
+        let fail = [call].to_vec(rt.alloc())?;
+        let mut source = MemSource::new(TEXT.to_vec(rt.alloc())?, piece, fail);
+        assert_eq!(rt; read_all(rt.alloc(), &mut source, 99), Err(ReadErr::Fault));
+        assert_eq!(rt; source.left().len() + taken, 30, "piece {piece}");
+        let rest = read_all(rt.alloc(), &mut source, 99);
+        assert_eq!(rt; rest.map(|all| all.len() + taken), Ok(30));
+    }
+    Ok(())
+}
+
+/// The same of the calls that write the text.
+const FAILING_WRITES: [(usize, u64, usize); 6] = [
+    (1, 1, 0),
+    (1, 15, 14),
+    (1, 30, 29),
+    (10, 1, 0),
+    (10, 2, 10),
+    (10, 3, 20),
+];
+
+#[test]
+fn each_failing_write_is_told_at_its_call(rt: HostRuntime) -> Result<(), Fail> {
+    for (piece, call, done) in FAILING_WRITES {
+        let fail = [call].to_vec(rt.alloc())?;
+        let mut sink = MemSink::new(rt.alloc(), 60, piece, fail)?;
+        assert_eq!(rt; write_all(&mut sink, TEXT), Err(WriteErr::Fault(done)));
+        assert_eq!(rt; TEXT.starts_with(sink.written()), true);
+        assert_eq!(rt; sink.written().len(), done);
+        assert_eq!(rt; write_all(&mut sink, TEXT), Ok(()));
+        assert_eq!(rt; sink.written().len(), done + 30);
+    }
+    Ok(())
+}
+
+// A reader whose first read a signal breaks off, and whose third fails.
+#[derive(Drop)]
+struct Broken {
+    reads: u32,
+}
+
+impl Read for Broken {
+    fn read(&mut self, _buf: &mut [u8]) -> io::Result<usize> {
+        self.reads = self.reads.saturating_add(1);
+        match self.reads {
+            1 => Err(Error::from(ErrorKind::Interrupted)),
+            2 => Ok(0),
+            _ => Err(Error::from(ErrorKind::BrokenPipe)),
+        }
+    }
+}
+
+#[test]
+fn a_std_source_passes_on_what_its_reader_answers(rt: HostRuntime) {
+    let mut input = StdSource::new(rt.reader());
+    assert_eq!(rt;
+        read_all(rt.alloc(), &mut input, 4).map(|all| all.len()),
+        Ok(0)
+    );
+    let mut broken = StdSource::new(Broken { reads: 0 });
+    assert_eq!(rt; broken.read(&mut [0u8; 4]), Ok(0));
+    assert_eq!(rt; broken.read(&mut [0u8; 4]), Err(Failed));
+}
+
+#[test]
+fn a_std_sink_passes_on_what_its_writer_answers(rt: HostRuntime) {
+    let mut output = StdSink::new(io::writer(&rt));
+    assert_eq!(rt; write_all(&mut output, b"written\n"), Ok(()));
+}
