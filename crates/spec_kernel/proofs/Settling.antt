@@ -1,0 +1,156 @@
+-- What settling does: it leaves no call ready, and changes neither the time, nor the tasks, nor the last number.
+use Rattle.std.proofs.Common.{◌≡◌, ℕ, zero, suc, ◌≤◌, List, [], ◌∷◌, ◌++◌, length, Option, Some, None, refl, ◌∙◌, inl, inr, arith}
+use mathlib.Core.Logic.{◌⊎◌}
+use Rattle.std.proofs.lemmas.List.{nil_from_length, append-nil}
+use Rattle.it_types.specs.declared.context.Ctx.{Ctx}
+use Rattle.it_types.specs.declared.id.CallNo.{CallNo}
+use Rattle.it_types.specs.declared.er.Er.{Er}
+use Rattle.it_types.specs.declared.id.TaskId.{TaskId}
+use Rattle.it_types.specs.declared.timeout.Tmo.{Tmo}
+use Rattle.it_types.specs.declared.kernel_request.KReq.{KReq}
+use Rattle.it_types.specs.declared.kernel_request.KReq.TheVariants.{ExtTsk, SigSem, TwaiSem}
+use Rattle.spec_lists.specs.Refusal.{first_refusal}
+use Rattle.spec_lists.proofs.Firsts.{cases_of_first, take_first-shorter}
+use Rattle.spec_kernel.specs.declared.wait.Wait.{Wait}
+use Rattle.spec_kernel.specs.declared.wait.WaitFor.{WaitFor}
+use Rattle.spec_kernel.specs.PlainKernel.{PlainKernel}
+use Rattle.spec_kernel.specs.Settle.{Outcome, is_ready, first_ready, AtRest, freed, end_of, settle, settled}
+use Rattle.spec_kernel.specs.declared.wait.WaitFor.TheVariants as targets
+use Rattle.spec_kernel.specs.Semaphores.{count_of}
+use Rattle.spec_kernel.specs.Rows.{refusals, is_poll, caller, carried_out, accepted, unless_refused, row, call, quiet, tick, ticked}
+use Rattle.spec_lists.specs.Tables.{get}
+use Rattle.std.proofs.Common.{ltb}
+use Rattle.std.proofs.lemmas.Bool.{cases_Bool}
+
+-- where no call is ready, nothing ends
+pub settle_none : (n : ℕ) (k : PlainKernel) → first_ready k ≡ None → settle n k ≡ (k, [])
+unfolding settle
+settle_none zero k e = refl
+settle_none (suc n) k e = rw e refl
+
+-- where one call is ready, and none after its end, it alone ends
+pub settle_one : (n : ℕ) (k : PlainKernel) (x : Wait × List Wait)
+    → length k.waits ≤ n
+    → first_ready k ≡ Some x
+    → first_ready (freed k x.0 x.1) ≡ None
+    → settle n k ≡ (freed k x.0 x.1, end_of x.0 ∷ [])
+unfolding settle
+settle_one zero k x le e h = absurd (omega (arith, take_first-shorter (is_ready k.semaphores) k.waits x e))
+settle_one (suc n) k x le e h = rw e (rw (settle_none n (freed k x.0 x.1) h) refl)
+
+-- after as many turns as calls wait, no call is ready
+pub settle_rests : (n : ℕ) (k : PlainKernel) → length k.waits ≤ n → AtRest (settle n k).0
+unfolding settle
+settle_rests zero k le = let none : k.waits ≡ [] = nil_from_length k.waits (omega arith) in rw none refl
+settle_rests (suc n) k le = elim (cases_of_first (first_ready k)) [
+  | inl e ↦ rw e e
+  | inr w ↦ rw w.1 (settle_rests n (freed k w.0.0 w.0.1) (omega (arith, take_first-shorter (is_ready k.semaphores) k.waits w.0 w.1)))
+]
+
+-- the time stays
+pub settle-now : (n : ℕ) (k : PlainKernel) → (settle n k).0.now ≡ k.now
+unfolding settle
+settle-now zero k = refl
+settle-now (suc n) k = elim (cases_of_first (first_ready k)) [
+  | inl e ↦ rw e refl
+  | inr w ↦ rw w.1 (settle-now n (freed k w.0.0 w.0.1))
+]
+
+-- the last number stays
+pub settle-last_call : (n : ℕ) (k : PlainKernel) → (settle n k).0.last_call ≡ k.last_call
+unfolding settle
+settle-last_call zero k = refl
+settle-last_call (suc n) k = elim (cases_of_first (first_ready k)) [
+  | inl e ↦ rw e refl
+  | inr w ↦ rw w.1 (settle-last_call n (freed k w.0.0 w.0.1))
+]
+
+-- the tasks stay as they are
+pub settle-tasks : (n : ℕ) (k : PlainKernel) → (settle n k).0.tasks ≡ k.tasks
+unfolding settle
+settle-tasks zero k = refl
+settle-tasks (suc n) k = elim (cases_of_first (first_ready k)) [
+  | inl e ↦ rw e refl
+  | inr w ↦ rw w.1 (settle-tasks n (freed k w.0.0 w.0.1))
+]
+
+pub settled_none : (o : Outcome) → first_ready o.kernel ≡ None → settled o ≡ o
+unfolding settled
+settled_none o e = rw (settle_none (length o.kernel.waits) o.kernel e, append-nil) refl
+
+pub settled_one : (o : Outcome) (x : Wait × List Wait)
+    → first_ready o.kernel ≡ Some x
+    → first_ready (freed o.kernel x.0 x.1) ≡ None
+    → settled o ≡ record o { kernel = freed o.kernel x.0 x.1; ends = o.ends ++ end_of x.0 ∷ [] }
+unfolding settled
+settled_one o x e h = rw (settle_one (length o.kernel.waits) o.kernel x (omega arith) e h) refl
+
+-- no call that waits is ready after an outcome has settled
+pub settled_rests : (o : Outcome) → AtRest (settled o).kernel
+unfolding settled
+settled_rests o = settle_rests (length o.kernel.waits) o.kernel (omega arith)
+
+pub settled-now : (o : Outcome) → (settled o).kernel.now ≡ o.kernel.now
+unfolding settled
+settled-now o = settle-now (length o.kernel.waits) o.kernel
+
+pub settled-last_call : (o : Outcome) → (settled o).kernel.last_call ≡ o.kernel.last_call
+unfolding settled
+settled-last_call o = settle-last_call (length o.kernel.waits) o.kernel
+
+pub settled-tasks : (o : Outcome) → (settled o).kernel.tasks ≡ o.kernel.tasks
+unfolding settled
+settled-tasks o = settle-tasks (length o.kernel.waits) o.kernel
+
+pub settled-answer : (o : Outcome) → (settled o).answer ≡ o.answer
+unfolding settled
+settled-answer o = refl
+
+-- a row leaves the time, and the last number unless it waits
+abbrev Stays : PlainKernel → CallNo → Outcome → Type 0
+Stays k number o = (o.kernel.now ≡ k.now) × ((o.kernel.last_call ≡ number.0) ⊎ (o.kernel.last_call ≡ k.last_call))
+
+accepted_stays : (k : PlainKernel) (task : TaskId) (target : WaitFor) (tmo : Tmo) (number : CallNo) → Stays k number (accepted k task target tmo number)
+accepted_stays k task target tmo number = elim (cases_Bool (is_poll tmo)) [
+  | inl t ↦ rw t (refl, inr refl)
+  | inr t ↦ rw t (refl, inl refl)
+]
+
+carried_out_stays : (k : PlainKernel) (ctx : Ctx) (request : KReq) (number : CallNo) → Stays k number (carried_out k ctx request number)
+carried_out_stays k ctx ExtTsk number = (refl, inr refl)
+carried_out_stays k ctx (SigSem s) number = (refl, inr refl)
+carried_out_stays k ctx (TwaiSem s tmo) number = elim (cases_Bool (ltb 0 (count_of (get k.semaphores s.0)))) [
+  | inl t ↦ rw t (refl, inr refl)
+  | inr t ↦ rw t (accepted_stays k (caller ctx) (targets.Semaphore s) tmo number)
+]
+
+unless_refused_stays : (k : PlainKernel) (number : CallNo) (refusal : Option Er) (o : Outcome) → Stays k number o → Stays k number (unless_refused refusal k o)
+unless_refused_stays k number None o h = h
+unless_refused_stays k number (Some code) o h = (refl, inr refl)
+
+row_stays : (k : PlainKernel) (ctx : Ctx) (request : KReq) (number : CallNo) → Stays k number (row k ctx request number)
+row_stays k ctx request number = unless_refused_stays k number (first_refusal (refusals k ctx request)) (carried_out k ctx request number) (carried_out_stays k ctx request number)
+
+-- no call that waits is ready after a call of the kernel
+pub call_rests : (k : PlainKernel) (ctx : Ctx) (request : KReq) (number : CallNo) → AtRest (call k ctx request number).kernel
+unfolding call
+call_rests k ctx request number = settled_rests (row k ctx request number)
+
+-- a call takes no time
+pub call-now : (k : PlainKernel) (ctx : Ctx) (request : KReq) (number : CallNo) → (call k ctx request number).kernel.now ≡ k.now
+unfolding call
+call-now k ctx request number = settled-now (row k ctx request number) ∙ (row_stays k ctx request number).0
+
+-- the last number is that of the call, or it stays
+pub call-last_call : (k : PlainKernel) (ctx : Ctx) (request : KReq) (number : CallNo)
+    → ((call k ctx request number).kernel.last_call ≡ number.0) ⊎ ((call k ctx request number).kernel.last_call ≡ k.last_call)
+unfolding call
+call-last_call k ctx request number = elim (row_stays k ctx request number).1 [
+  | inl e ↦ inl (settled-last_call (row k ctx request number) ∙ e)
+  | inr e ↦ inr (settled-last_call (row k ctx request number) ∙ e)
+]
+
+-- where no call is ready, a tick ends none
+pub tick_rests : (k : PlainKernel) → AtRest k → tick k ≡ quiet (ticked k)
+unfolding tick
+tick_rests k e = settled_none (quiet (ticked k)) e

@@ -1,0 +1,93 @@
+-- What a script keeps: its ranges, one declaration for each id of a kind, and the lines that can be written today.
+use Rattle.std.specs.Prelude.{◌≡◌, ◌≢◌, ℕ, Bool, true, false, not, ◌&&◌, List, [], ◌∷◌, ◌++◌, length, Option, Some, None, nat_le, nat_lt, ◌==◌}
+use Rattle.std.specs.List.{list_all, list_any}
+use Rattle.it_types.specs.declared.request.Req.{Req}
+use Rattle.it_types.specs.declared.request.Req.TheVariants as requests
+use Rattle.it_types.specs.declared.timeout.Tmo.{Tmo}
+use Rattle.it_types.specs.declared.timeout.Tmo.TheVariants as timeouts
+use Rattle.spec_script.specs.declared.script.Script.{Script}
+use Rattle.spec_script.specs.declared.decl.Decl.{Decl}
+use Rattle.spec_script.specs.declared.decl.Decl.TheVariants as declarations
+use Rattle.spec_script.specs.declared.decl.Line.{Line}
+use Rattle.spec_script.specs.declared.decl.Line.TheVariants as body_lines
+use Rattle.spec_script.specs.declared.script_line.ScriptLine.{ScriptLine}
+use Rattle.spec_script.specs.declared.script_line.ScriptLine.TheVariants.{Link, Ticks, FirstNode, SecondNode, Sem, Task, Call}
+use Rattle.spec_script.specs.declared.script_line.NodeLine.{NodeLine}
+use Rattle.spec_script.specs.Lines.{first_node, second_node, key_of, lines_of}
+
+-- a number from low to high
+abbrev pub within : ℕ → Option ℕ → ℕ → Bool
+within low None high = false
+within low (Some n) high = nat_le low n && nat_le n high
+
+-- the first number is at most the second
+abbrev pub is_at_most : Option ℕ → Option ℕ → Bool
+is_at_most (Some m) (Some n) = nat_le m n
+is_at_most _ _ = false
+
+-- the ranges of a line
+abbrev pub is_node_in_range : NodeLine → Bool
+is_node_in_range n = within 1 n.addr 4294967295 && (within 0 n.isn0 4294967295 && within 0 n.top0 2000000000)
+
+abbrev pub is_in_range : ScriptLine → Bool
+is_in_range (Link key) = within 0 key 18446744073709551615
+is_in_range (Ticks ticks) = within 0 ticks 400000
+is_in_range (FirstNode n) = is_node_in_range n
+is_in_range (SecondNode n) = is_node_in_range n
+is_in_range (Sem id init max) = within 1 id 16 && (is_at_most init max && within 1 max 65535)
+is_in_range (Task id pri) = within 1 id 16 && within 1 pri 16
+is_in_range (Call request fits) = fits
+is_in_range _ = true
+
+-- the greatest number of lines of a body
+abbrev pub body_limit : ℕ
+body_limit = 1000
+
+abbrev pub is_task : ℕ → Decl → Bool
+is_task id (declarations.Task task body) = task.id == id
+is_task id (declarations.Sem sem) = false
+
+abbrev pub is_semaphore : ℕ → Decl → Bool
+is_semaphore id (declarations.Task task body) = false
+is_semaphore id (declarations.Sem sem) = sem.id == id
+
+-- the id of this declaration's kind stands among those before
+abbrev pub is_repeated : List Decl → Decl → Bool
+is_repeated before (declarations.Task task body) = list_any (is_task task.id) before
+is_repeated before (declarations.Sem sem) = list_any (is_semaphore sem.id) before
+
+-- a time-out that can be written: pol or fevr
+abbrev pub is_written_timeout : Tmo → Bool
+is_written_timeout timeouts.Pol = true
+is_written_timeout timeouts.Fevr = true
+is_written_timeout _ = false
+
+-- a call that can be written, whose ids are below 2^32
+abbrev pub is_written_call : Req → Bool
+is_written_call (requests.SigSem sem) = nat_lt sem.0 4294967296
+is_written_call (requests.TwaiSem sem tmo) = nat_lt sem.0 4294967296 && is_written_timeout tmo
+is_written_call requests.ExtTsk = false
+
+abbrev pub is_written_line : Line → Bool
+is_written_line (body_lines.Call request) = is_written_call request
+
+-- a declaration that can be written: a task that begins at the start, with a body that isn't too long; a semaphore on
+-- which tasks wait by arrival
+abbrev pub is_written_declaration : Decl → Bool
+is_written_declaration (declarations.Task task body) = task.act && (nat_le (length body.lines) body_limit && list_all is_written_line body.lines)
+is_written_declaration (declarations.Sem sem) = not sem.pri
+
+-- each id of a kind is declared once
+abbrev pub are_distinct : List Decl → List Decl → Bool
+are_distinct before [] = true
+are_distinct before (d ∷ ds) = not (is_repeated before d) && are_distinct (before ++ d ∷ []) ds
+
+-- a script that keeps all this; no packet is lost, doubled or delayed, and node 1 declares nothing
+pub record IsGood (s : Script) : Type 0 where
+  pub ranges : list_all is_in_range (lines_of s) ≡ true
+  pub written : list_all is_written_declaration (first_node s).decls ≡ true
+  pub distinct : are_distinct [] (first_node s).decls ≡ true
+  pub addresses : (second_node s).addr ≢ (first_node s).addr
+  pub bare_second : (second_node s).decls ≡ []
+  pub sure_link : s.link ≡ key_of s ∷ 0 ∷ 0 ∷ 0 ∷ []
+  pub two_nodes : length s.nodes ≡ 2

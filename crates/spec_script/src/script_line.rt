@@ -1,0 +1,46 @@
+use it_types::Req;
+
+/// A line of a script's text. A number is `None` where it is 2^64 or more.
+#[derive(Debug, Drop)]
+pub enum ScriptLine {
+    /// `itron 1`
+    Itron,
+    /// `link KEY 0 0 0`
+    Link {
+        key: Option<u64>,
+    },
+    /// `ticks T`
+    Ticks {
+        ticks: Option<u64>,
+    },
+    /// `node 0 ADDR ISN TOP`
+    FirstNode(NodeLine),
+    /// `node 1 ADDR ISN TOP`
+    SecondNode(NodeLine),
+    /// `sem ID fifo INIT MAX`
+    Sem {
+        id: Option<u64>,
+        init: Option<u64>,
+        max: Option<u64>,
+    },
+    /// `task ID PRI act`
+    Task {
+        id: Option<u64>,
+        pri: Option<u64>,
+    },
+    /// A call of a body; `fits` says that each of its numbers is in its range.
+    Call {
+        req: Req,
+        fits: bool,
+    },
+    /// `end`
+    End,
+}
+
+/// What stands in a line that begins a node: the address is `None` where one of its parts is above 255.
+#[derive(Clone, Copy, Debug)]
+pub struct NodeLine {
+    pub addr: Option<u32>,
+    pub isn0: Option<u64>,
+    pub top0: Option<u64>,
+}

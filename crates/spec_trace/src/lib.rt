@@ -1,0 +1,2 @@
+//! The specification of the trace: the text of a history's entries.
+#![tactic(auto)]

@@ -1,0 +1,5 @@
+pub mod Examples
+pub mod Handoff
+pub mod Overflow
+pub mod Declarable
+pub mod Events

@@ -1,0 +1,4 @@
+pub mod PlainNode
+pub mod PlainWorld
+pub mod Declarations
+pub mod Schedule
