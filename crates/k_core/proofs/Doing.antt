@@ -1,0 +1,102 @@
+-- What the code of each row does is what the row says, for the kernel that it began with: `before` are its tables, and
+-- `named` is the kernel that the contract names.
+use Rattle.std.proofs.Common.{◌≡◌, ◌<◌, ◌≤◌, ltb, None, Some, false, List, [], ◌∷◌, ap, sym, ◌∙◌, subst}
+use Rattle.std.proofs.lemmas.Bool.{le-ltb}
+use Rattle.it_types.specs.declared.context.Ctx.{Ctx}
+use Rattle.it_types.specs.declared.er.TheConstants.{E_OK}
+use Rattle.it_types.specs.declared.id.CallNo.{CallNo}
+use Rattle.it_types.specs.declared.id.ObjId.{ObjId}
+use Rattle.it_types.specs.declared.timeout.Tmo.{Tmo}
+use Rattle.it_types.specs.declared.kernel_request.KReq.TheVariants.{ExtTsk, SigSem, TwaiSem}
+use Rattle.spec_lists.specs.Tables.{get}
+use Rattle.spec_lists.specs.First.{take_first}
+use Rattle.spec_lists.specs.Refusal.{first_refusal}
+use Rattle.spec_kernel.specs.declared.outcome.KAns.TheVariants.{Now}
+use Rattle.spec_kernel.specs.declared.wait.Wait.{Wait}
+use Rattle.spec_kernel.specs.declared.wait.WaitFor.TheVariants as targets
+use Rattle.spec_kernel.specs.PlainKernel.{PlainKernel, nobody}
+use Rattle.spec_kernel.specs.Semaphores.{count_of, is_full}
+use Rattle.spec_kernel.specs.Settle.{Outcome, AtRest, end_of, first_ready}
+use Rattle.spec_kernel.specs.Rows.{is_on, caller, refusals, answered, accepted, exited, call}
+use Rattle.spec_kernel.proofs.Allowed.{signal_not_full}
+use Rattle.spec_kernel.proofs.RowCases.{acquired, exit_ends, passed_on, signal_ends, signal_raises, signalled, wait_accepts, wait_takes}
+use Rattle.k_core.specs.declared.done.Done.{Done}
+use Rattle.k_core.specs.Does.{Does}
+
+-- what is done by an outcome is done by one that is equal to it
+pub does_same : {after : PlainKernel} {done : Done} {o p : Outcome} → p ≡ o → Does after done o → Does after done p
+does_same {after} {done} e does = subst (λ r. Does after done r) (sym e) does
+
+-- the kernel that the code left is that of the outcome
+pub does_by : (f : PlainKernel → Outcome) (before named after : PlainKernel) (done : Done) (o : Outcome)
+    → before ≡ named
+    → f before ≡ o
+    → after ≡ o.kernel
+    → Does o.kernel done o
+    → Does after done (f named)
+does_by f before named after done o same outcome kernel does =
+    subst (λ k. Does after done (f k)) same (does_same outcome (subst (λ k. Does k done o) (sym kernel) does))
+
+-- a kernel is at rest as its tables are
+pub rests : {before named : PlainKernel} → before ≡ named → AtRest before → AtRest named
+rests same rest = ap first_ready (sym same) ∙ rest
+
+-- a semaphore on which no call waits is signalled only where it isn't full
+pub not_full : {before named : PlainKernel} (ctx : Ctx) (s : ObjId)
+    → before ≡ named
+    → first_refusal (refusals named ctx (SigSem s)) ≡ None
+    → take_first (is_on s) before.waits ≡ None
+    → is_full (get before.semaphores s.0) ≡ false
+not_full {before} ctx s same allowed none = signal_not_full before ctx s (ap (λ k. first_refusal (refusals k ctx (SigSem s))) same ∙ allowed) none
+
+module _ {before named : PlainKernel} (same : before ≡ named) (rest : AtRest before) where
+  -- a signal on which no call waits
+  pub raise_does : {after : PlainKernel} {done : Done} (ctx : Ctx) (s : ObjId) (number : CallNo)
+      → first_refusal (refusals named ctx (SigSem s)) ≡ None
+      → take_first (is_on s) before.waits ≡ None
+      → after ≡ signalled before s
+      → ((k : PlainKernel) → Does k done (answered k E_OK))
+      → Does after done (call named ctx (SigSem s) number)
+  raise_does {after} {done} ctx s number allowed none kernel tells =
+      does_by (λ k. call k ctx (SigSem s) number) before named after done (answered (signalled before s) E_OK) same
+      (signal_raises before ctx s number rest (ap (λ k. first_refusal (refusals k ctx (SigSem s))) same ∙ allowed) none) kernel (tells (signalled before s))
+
+  -- a signal that ends a call
+  pub end_does : {after : PlainKernel} {done : Done} (ctx : Ctx) (s : ObjId) (number : CallNo) (w : Wait) (others : List Wait)
+      → first_refusal (refusals named ctx (SigSem s)) ≡ None
+      → take_first (is_on s) before.waits ≡ Some (w, others)
+      → after ≡ passed_on before w others
+      → ((k : PlainKernel) → Does k done (record { kernel = k; answer = Now E_OK []; ends = end_of w ∷ []; gone = nobody; begun = nobody }))
+      → Does after done (call named ctx (SigSem s) number)
+  end_does {after} {done} ctx s number w others allowed first kernel tells =
+      does_by (λ k. call k ctx (SigSem s) number) before named after done _ same
+      (signal_ends before ctx s number (w, others) rest (ap (λ k. first_refusal (refusals k ctx (SigSem s))) same ∙ allowed) first) kernel (tells (passed_on before w others))
+
+  -- a wait that takes a count
+  pub take_does : {after : PlainKernel} {done : Done} (ctx : Ctx) (s : ObjId) (tmo : Tmo) (number : CallNo)
+      → first_refusal (refusals named ctx (TwaiSem s tmo)) ≡ None
+      → 0 < count_of (get before.semaphores s.0)
+      → after ≡ acquired before s
+      → ((k : PlainKernel) → Does k done (answered k E_OK))
+      → Does after done (call named ctx (TwaiSem s tmo) number)
+  take_does {after} {done} ctx s tmo number allowed some kernel tells =
+      does_by (λ k. call k ctx (TwaiSem s tmo) number) before named after done (answered (acquired before s) E_OK) same
+      (wait_takes before ctx s tmo number rest (ap (λ k. first_refusal (refusals k ctx (TwaiSem s tmo))) same ∙ allowed) some) kernel (tells (acquired before s))
+
+  -- a wait that is accepted
+  pub accept_does : {after : PlainKernel} {done : Done} (ctx : Ctx) (s : ObjId) (tmo : Tmo) (number : CallNo)
+      → first_refusal (refusals named ctx (TwaiSem s tmo)) ≡ None
+      → count_of (get before.semaphores s.0) ≤ 0
+      → Does after done (accepted named (caller ctx) (targets.Semaphore s) tmo number)
+      → Does after done (call named ctx (TwaiSem s tmo) number)
+  accept_does ctx s tmo number allowed none does =
+      does_same (wait_accepts named ctx s tmo number (rests same rest) allowed (ap (λ (k : PlainKernel). ltb 0 (count_of (get k.semaphores s.0))) (sym same) ∙ le-ltb 0 (count_of (get before.semaphores s.0)) none)) does
+
+  -- an exit
+  pub exit_does : {after : PlainKernel} {done : Done} (ctx : Ctx) (number : CallNo)
+      → first_refusal (refusals named ctx ExtTsk) ≡ None
+      → after ≡ (exited before (caller ctx)).kernel
+      → Does (exited before (caller ctx)).kernel done (exited before (caller ctx))
+      → Does after done (call named ctx ExtTsk number)
+  exit_does {after} {done} ctx number allowed kernel tells =
+      does_by (λ k. call k ctx ExtTsk number) before named after done (exited before (caller ctx)) same (exit_ends before ctx number rest (ap (λ k. first_refusal (refusals k ctx ExtTsk)) same ∙ allowed)) kernel tells

@@ -1,0 +1,4 @@
+use Rattle.k_core.proofs.kernel.Kernel.refusal.Goals as goal
+
+pub returns-in-SigSem-clause-code : goal.returns-in-SigSem-clause-code
+returns-in-SigSem-clause-code c = rw c.in-SigSem.is (c.sig_sem_refusal.ensures.code c.args.ctx)

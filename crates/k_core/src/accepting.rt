@@ -1,0 +1,48 @@
+ghost use Rattle.std.specs.Prelude.{◌≡◌, ◌≢◌, ◌<◌, ◌^◌, false};
+ghost use Rattle.spec_kernel.specs.Tasks.{running};
+ghost use Rattle.spec_kernel.specs.Settle.{is_met};
+ghost use Rattle.spec_kernel.specs.Rows.{accepted, waiting};
+ghost use Rattle.k_core.specs.Does.{Does};
+
+use crate::refusals::is_poll;
+use crate::waits::{deadline_of, take_out};
+use crate::{Done, Kernel};
+use it_types::{CallNo, E_TMOUT, TaskId, Tmo};
+use spec_kernel::{Wait, WaitFor};
+
+impl Kernel {
+    /// A call of the running task that isn't met at once: a poll is over, any other waits.
+    pub(crate) fn accept(&mut self, task: TaskId, target: WaitFor, tmo: Tmo, no: CallNo) -> Done
+        requires runs { running self.old.tasks self.old.runnable ≡ task }
+        requires some { task.0 ≢ 0 }
+        requires unmet { is_met self.old.semaphores target ≡ false }
+        requires counts { self.old.now < 2 ^ 60 }
+        ensures { Does self.new result (accepted self.old task target tmo no) }
+    {
+        if is_poll(tmo) {
+            Done::now(E_TMOUT)
+        } else {
+            self.wait(task, target, tmo, no)
+        }
+    }
+
+    /// The running task waits under this number.
+    fn wait(&mut self, task: TaskId, target: WaitFor, tmo: Tmo, no: CallNo) -> Done
+        requires runs { running self.old.tasks self.old.runnable ≡ task }
+        requires some { task.0 ≢ 0 }
+        requires unmet { is_met self.old.semaphores target ≡ false }
+        requires counts { self.old.now < 2 ^ 60 }
+        ensures { Does self.new result (waiting self.old task target tmo no) }
+    {
+        let deadline = deadline_of(self.ticks, tmo);
+        self.last_call = no;
+        take_out(&mut self.runnable, task);
+        self.waits.push(Wait {
+            call: no,
+            task,
+            target,
+            deadline,
+        });
+        Done::pending()
+    }
+}

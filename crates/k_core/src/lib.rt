@@ -1,0 +1,19 @@
+//! The running kernel: tasks, semaphores and the calls that wait, in tables that nothing allocates after the opening.
+#![tactic(auto)]
+
+mod accepting;
+mod done;
+mod kernel;
+mod opening;
+mod refusals;
+mod sem_calls;
+mod tables;
+mod task_calls;
+mod waits;
+
+pub use done::Done;
+pub use kernel::Kernel;
+pub use spec_kernel::{KAns, KEnd};
+
+#[cfg(test)]
+mod tests;
