@@ -1,0 +1,58 @@
+-- A line that may stand in its place is added to the lines of the draft.
+use Rattle.std.proofs.Common.{◌≡◌, ℕ, true, false, [], ◌∷◌, ◌++◌, Option, Some, None, unwrap_or, refl, append_assoc}
+use Rattle.std.proofs.lemmas.Bool.{and_parts}
+use Rattle.std.proofs.lemmas.List.{append-nil, map-append}
+use Rattle.std.proofs.lemmas.List.Concat.{flat_map-append}
+use Rattle.spec_script.specs.declared.script_line.ScriptLine.{ScriptLine}
+use Rattle.spec_script.specs.declared.script_line.ScriptLine.TheVariants.{Itron, Link, Ticks, FirstNode, SecondNode, Sem, Task, Call, End}
+use Rattle.spec_script.specs.declared.script_line.NodeLine.{NodeLine}
+use Rattle.spec_script.specs.Lines.{node_line}
+use Rattle.spec_script.specs.Ranges.{within, is_at_most, is_node_in_range, is_in_range}
+use Rattle.s_script.specs.declared.draft.Stage.{Stage}
+use Rattle.s_script.specs.declared.draft.Stage.TheVariants.{Start, Headed, Linked, Timed, Declares, InTask}
+use Rattle.s_script.specs.declared.draft.Draft.{Draft}
+use Rattle.s_script.specs.Drafts.{lines_at, in_place, node_of, moved}
+
+-- ---- numbers in their ranges are there
+
+-- a number in its range is there
+pub within_is : (low : ℕ) (n : Option ℕ) (high : ℕ) → within low n high ≡ true → Some (unwrap_or n 0) ≡ n
+within_is low None high e = absurd (let none : false ≡ true = e in cc)
+within_is low (Some n) high e = refl
+
+-- a number that is at most another is there
+pub at_most_is : (m n : Option ℕ) → is_at_most m n ≡ true → Some (unwrap_or m 0) ≡ m
+at_most_is None n e = absurd (let none : false ≡ true = e in cc)
+at_most_is (Some m) n e = refl
+
+-- a line that begins a node is that of the node
+node_options : (addr isn0 top0 : Option ℕ) → is_node_in_range (record { addr = addr; isn0 = isn0; top0 = top0 }) ≡ true → node_line (node_of (record { addr = addr; isn0 = isn0; top0 = top0 })) ≡ record { addr = addr; isn0 = isn0; top0 = top0 }
+node_options addr isn0 top0 range =
+    let bounds = and_parts (within 1 addr 4294967295) _ range in
+    let others = and_parts (within 0 isn0 4294967295) (within 0 top0 2000000000) bounds.1 in
+    rw (within_is 1 addr _ bounds.0, within_is 0 isn0 _ others.0, within_is 0 top0 _ others.1) refl
+
+-- the same of the line as a whole
+pub node_is : (n : NodeLine) → is_node_in_range n ≡ true → node_line (node_of n) ≡ n
+node_is n range = node_options n.addr n.isn0 n.top0 range
+
+-- ---- one clause for each line in its place
+
+-- a line in its place and its ranges is the next line of the draft
+pub added : (stage : Stage) (d : Draft) (l : ScriptLine) → in_place stage l ≡ true → is_in_range l ≡ true → lines_at (moved d l).stage (moved d l) ≡ lines_at stage d ++ (l ∷ [])
+added Start d Itron place range = refl
+added Headed d (Link key) place range = rw (within_is 0 key _ range) refl
+added Linked d (Ticks ticks) place range = rw (within_is 0 ticks _ range) refl
+added Timed d (FirstNode n) place range = rw (node_is n range) refl
+added Declares d (Sem id init max) place range =
+    let bounds = and_parts (within 1 id 16) _ range in
+    let counts = and_parts (is_at_most init max) (within 1 max 65535) bounds.1 in
+    rw (flat_map-append, within_is 1 id _ bounds.0, at_most_is init max counts.0, within_is 1 max _ counts.1) refl
+added Declares d (Task id pri) place range =
+    let bounds = and_parts (within 1 id 16) (within 1 pri 16) range in
+    rw (within_is 1 id _ bounds.0, within_is 1 pri _ bounds.1) refl
+added Declares d (SecondNode n) place range = rw (node_is n range) refl
+added InTask d (Call request true) place range = simp (map-append, append_assoc)
+added InTask d (Call request false) place range = absurd (let none : false ≡ true = range in cc)
+added InTask d End place range = simp (flat_map-append, append_assoc, append-nil)
+added _ _ _ place range = absurd (let none : false ≡ true = place in cc)

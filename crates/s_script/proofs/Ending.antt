@@ -1,0 +1,103 @@
+-- Each draft that is reached can be ended: with some more lines it makes a good script.
+use Rattle.std.proofs.Common.{◌≡◌, ℕ, true, false, ◌&&◌, cond, eqb, leb, List, [], ◌∷◌, ◌++◌, Some, refl, sym, ap, ◌∙◌, append_assoc, inl, inr, arith}
+use Rattle.std.proofs.lemmas.Bool.{cases_Bool, eqb-true, ne_eqb}
+use Rattle.std.proofs.lemmas.List.{append-nil}
+use Rattle.spec_script.specs.declared.script_line.ScriptLine.{ScriptLine}
+use Rattle.spec_script.specs.declared.script_line.ScriptLine.TheVariants.{Itron, Link, Ticks, FirstNode, SecondNode, End}
+use Rattle.spec_script.specs.declared.script_line.NodeLine.{NodeLine}
+use Rattle.s_script.specs.declared.draft.Stage.{Stage}
+use Rattle.s_script.specs.declared.draft.Stage.TheVariants.{Start, Headed, Linked, Timed, Declares, InTask, Whole}
+use Rattle.s_script.specs.declared.draft.Draft.{Draft}
+use Rattle.s_script.specs.Drafts.{lines_at, moved}
+use Rattle.s_script.proofs.Added.{added}
+use Rattle.s_script.proofs.Kept.{Passes, Kept, kept}
+use Rattle.s_script.proofs.LineTakes.{is_written}
+
+-- a whole draft with more lines
+pub record Ends (d : Draft) : Type 0 where
+  pub last : Draft
+  pub more : List ScriptLine
+  pub keeps : Kept last
+  pub whole : last.stage ≡ Whole
+  pub grown : lines_at last.stage last ≡ lines_at d.stage d ++ more
+
+-- a line that passes, and the end of what follows it
+ends_with : (d : Draft) (l : ScriptLine) → Kept d → Passes d l → is_written l ≡ true → (Kept (moved d l) → Ends (moved d l)) → Ends d
+ends_with d l k p w next =
+    let e = next (kept d l k p w) in
+    record {
+      last = e.last;
+      more = l ∷ e.more;
+      keeps = e.keeps;
+      whole = e.whole;
+      grown = e.grown ∙ ap (λ (ls : List ScriptLine). ls ++ e.more) (added d.stage d l p.place p.range) ∙ append_assoc (lines_at d.stage d) (l ∷ []) e.more;
+    }
+
+-- ---- a last line: node 1, with an address of its own
+
+-- an address other than this one
+abbrev other_than : ℕ → ℕ
+other_than addr = cond (eqb addr 1) 2 1
+
+-- a node with this address
+abbrev node_at : ℕ → NodeLine
+node_at addr = record { addr = Some addr; isn0 = Some 0; top0 = Some 0 }
+
+-- another address, in its range
+abbrev IsOther : ℕ → ℕ → Type 0
+IsOther addr other = (eqb other addr ≡ false) × ((leb 1 other && leb other 4294967295) ≡ true)
+
+-- there is another address
+other_is : (addr : ℕ) → IsOther addr (other_than addr)
+other_is addr =
+    elim (cases_Bool (eqb addr 1)) [
+      | inl t ↦ rw t (ne_eqb 2 addr (λ e. let one : addr ≡ 1 = eqb-true addr 1 t in omega arith), refl)
+      | inr f ↦ rw f (ne_eqb 1 addr (λ e. let same : eqb addr 1 ≡ true = rw (← e) refl in let none : true ≡ false = sym same ∙ f in absurd cc), refl)
+    ]
+
+-- ---- from the last stage to the first
+
+-- after the last line nothing is missing
+from_whole : (d : Draft) → d.stage ≡ Whole → Kept d → Ends d
+from_whole d e k = record { last = d; more = []; keeps = k; whole = e; grown = sym (append-nil (lines_at d.stage d)) }
+
+-- between declarations node 1 is missing
+from_declares : (d : Draft) → d.stage ≡ Declares → Kept d → Ends d
+from_declares d e k =
+    let own = other_is d.first.addr in
+    let n = node_at (other_than d.first.addr) in
+    ends_with d (SecondNode n) k (record { place = rw e refl; range = rw own.1 refl; room = rw own.0 refl; fresh = refl }) refl (from_whole (moved d (SecondNode n)) refl)
+
+-- in a body `end` is missing, and then node 1
+from_task : (d : Draft) → d.stage ≡ InTask → Kept d → Ends d
+from_task d e k = ends_with d End k (record { place = rw e refl; range = refl; room = refl; fresh = refl }) refl (from_declares (moved d End) refl)
+
+-- after `ticks` both nodes are missing
+from_timed : (d : Draft) → d.stage ≡ Timed → Kept d → Ends d
+from_timed d e k = ends_with d (FirstNode (node_at 1)) k (record { place = rw e refl; range = refl; room = refl; fresh = refl }) refl (from_declares (moved d (FirstNode (node_at 1))) refl)
+
+-- after `link` also `ticks` is missing
+from_linked : (d : Draft) → d.stage ≡ Linked → Kept d → Ends d
+from_linked d e k = ends_with d (Ticks (Some 0)) k (record { place = rw e refl; range = refl; room = refl; fresh = refl }) refl (from_timed (moved d (Ticks (Some 0))) refl)
+
+-- after `itron` also `link` is missing
+from_headed : (d : Draft) → d.stage ≡ Headed → Kept d → Ends d
+from_headed d e k = ends_with d (Link (Some 0)) k (record { place = rw e refl; range = refl; room = refl; fresh = refl }) refl (from_linked (moved d (Link (Some 0))) refl)
+
+-- before the first line all is missing
+from_start : (d : Draft) → d.stage ≡ Start → Kept d → Ends d
+from_start d e k = ends_with d Itron k (record { place = rw e refl; range = refl; room = refl; fresh = refl }) refl (from_headed (moved d Itron) refl)
+
+-- at each stage the draft can be ended
+by_stage : (stage : Stage) (d : Draft) → d.stage ≡ stage → Kept d → Ends d
+by_stage Start d e k = from_start d e k
+by_stage Headed d e k = from_headed d e k
+by_stage Linked d e k = from_linked d e k
+by_stage Timed d e k = from_timed d e k
+by_stage Declares d e k = from_declares d e k
+by_stage InTask d e k = from_task d e k
+by_stage Whole d e k = from_whole d e k
+
+-- each draft that keeps what drafts keep can be ended
+pub ends : (d : Draft) → Kept d → Ends d
+ends d k = by_stage d.stage d refl k

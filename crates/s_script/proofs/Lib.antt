@@ -1,0 +1,15 @@
+pub mod Fronts
+pub mod Words
+pub mod Numerals
+pub mod LineTakes
+pub mod LineAgain
+pub mod ReadLoop
+pub mod Added
+pub mod Kept
+pub mod Led
+pub mod Plain
+pub mod ScriptRuns
+pub mod ReadBack
+pub mod Printed
+pub mod Ending
+pub mod FirstWrong

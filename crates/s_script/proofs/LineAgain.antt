@@ -1,0 +1,206 @@
+-- A line in its ranges is read again from its text.
+use Rattle.std.proofs.Common.{◌≡◌, ℕ, ◌+◌, ◌*◌, ◌/◌, ◌%◌, ◌<◌, ◌≤◌, true, false, ltb, leb, List, [], ◌++◌, Option, Some, None, codes, refl, sym, ap, ◌∙◌, append_assoc, arith}
+use Rattle.std.specs.Char.{is_ascii_digit}
+use Rattle.std.specs.Fmt.{decimal}
+use Rattle.std.proofs.lemmas.Bool.{and_parts, ltb-true, leb-true, lt-ltb}
+use Rattle.std.proofs.lemmas.List.{append-nil}
+use Rattle.it_types.specs.declared.id.ObjId.{ObjId}
+use Rattle.it_types.specs.declared.request.Req.{Req}
+use Rattle.it_types.specs.declared.request.Req.TheVariants as requests
+use Rattle.it_types.specs.declared.timeout.Tmo.{Tmo}
+use Rattle.it_types.specs.declared.timeout.Tmo.TheVariants as timeouts
+use Rattle.it_types.specs.Address.{address_text}
+use Rattle.it_types.specs.Spelling.{timeout_text}
+use Rattle.spec_script.specs.declared.script_line.ScriptLine.{ScriptLine}
+use Rattle.spec_script.specs.declared.script_line.ScriptLine.TheVariants.{Itron, Link, Ticks, FirstNode, SecondNode, Sem, Task, Call, End}
+use Rattle.spec_script.specs.declared.script_line.NodeLine.{NodeLine}
+use Rattle.spec_script.specs.Lines.{line_text, node_text}
+use Rattle.spec_script.specs.Ranges.{within, is_at_most, is_node_in_range, is_in_range, is_written_timeout, is_written_call}
+use Rattle.s_script.specs.Cursor.{and_then, after}
+use Rattle.s_script.specs.Numbers.{number_at, address_of, address_at}
+use Rattle.s_script.specs.LineKinds.{timeout_word, timeout_at, sig_sem_line, twai_sem_line, itron_line, link_line, ticks_line, node_at, first_node_line, second_node_line, either_node_line, sem_line, task_line, line_of}
+use Rattle.s_script.proofs.Fronts.{stops}
+use Rattle.s_script.proofs.Numerals.{number_again}
+use Rattle.s_script.proofs.LineTakes.{is_written}
+
+-- ---- numbers in their ranges
+
+-- what follows from a number in its range, which is there
+pub in_bounds : {P : Type 0} (low : ℕ) (n : Option ℕ) (high : ℕ) → within low n high ≡ true → ((v : ℕ) → n ≡ Some v → v ≤ high → P) → P
+in_bounds low None high e go = absurd (let none : false ≡ true = e in cc)
+in_bounds low (Some n) high e go = go n refl (leb-true n high (and_parts (leb low n) (leb n high) e).1)
+
+-- what follows from a number that is at most another, which is there
+pub at_most : {P : Type 0} (m : Option ℕ) (n : ℕ) → is_at_most m (Some n) ≡ true → ((v : ℕ) → m ≡ Some v → v ≤ n → P) → P
+at_most None n e go = absurd (let none : false ≡ true = e in cc)
+at_most (Some m) n e go = go m refl (leb-true m n e)
+
+-- a number at the end is read again
+number_last : (n : ℕ) → n < 18446744073709551616 → number_at (decimal n) ≡ Some (Some n, [])
+number_last n fits = ap number_at (sym (append-nil (decimal n))) ∙ number_again n [] fits refl
+
+-- ---- addresses
+
+-- the parts of an address make it
+address_back : (addr : ℕ) → addr ≤ 4294967295 → address_of (Some (addr / 16777216)) (Some (addr / 65536 % 256)) (Some (addr / 256 % 256)) (Some (addr % 256)) ≡ Some addr
+unfolding address_of and_then
+address_back addr high =
+    let one : ltb (addr / 16777216) 256 ≡ true = lt-ltb _ 256 (omega arith) in
+    let two : ltb (addr / 65536 % 256) 256 ≡ true = lt-ltb _ 256 (omega arith) in
+    let three : ltb (addr / 256 % 256) 256 ≡ true = lt-ltb _ 256 (omega arith) in
+    let four : ltb (addr % 256) 256 ≡ true = lt-ltb _ 256 (omega arith) in
+    let whole : ((addr / 16777216 * 256 + addr / 65536 % 256) * 256 + addr / 256 % 256) * 256 + addr % 256 ≡ addr = omega arith in
+    rw (one, two, three, four, whole) refl
+
+-- an address is read again
+address_again : (addr : ℕ) (rest : List ℕ) → addr ≤ 4294967295 → stops is_ascii_digit rest ≡ true → address_at (address_text addr ++ rest) ≡ Some (Some addr, rest)
+unfolding address_at and_then after
+address_again addr rest high stop =
+    let a = addr / 16777216 in
+    let b = addr / 65536 % 256 in
+    let c = addr / 256 % 256 in
+    let d = addr % 256 in
+    let regrouped : address_text addr ++ rest ≡ decimal a ++ (codes "." ++ (decimal b ++ (codes "." ++ (decimal c ++ (codes "." ++ (decimal d ++ rest)))))) = simp append_assoc in
+    ap address_at regrouped ∙ rw (
+      number_again a (codes "." ++ (decimal b ++ (codes "." ++ (decimal c ++ (codes "." ++ (decimal d ++ rest)))))) (omega arith) refl,
+      number_again b (codes "." ++ (decimal c ++ (codes "." ++ (decimal d ++ rest)))) (omega arith) refl,
+      number_again c (codes "." ++ (decimal d ++ rest)) (omega arith) refl,
+      number_again d rest (omega arith) stop,
+      address_back addr high,
+    ) refl
+
+-- ---- one lemma for each kind of line
+
+-- link KEY 0 0 0
+link_again : (key : Option ℕ) → is_in_range (Link key) ≡ true → line_of (line_text (Link key)) ≡ Some (Link key)
+unfolding line_of link_line and_then after
+link_again key range = in_bounds 0 key 18446744073709551615 range λ k e high. rw (e, number_again k (codes " 0 0 0") (omega arith) refl) refl
+
+-- ticks T
+ticks_again : (ticks : Option ℕ) → is_in_range (Ticks ticks) ≡ true → line_of (line_text (Ticks ticks)) ≡ Some (Ticks ticks)
+unfolding line_of ticks_line and_then after
+ticks_again ticks range = in_bounds 0 ticks 400000 range λ t e high. rw (e, number_last t (omega arith)) refl
+
+-- ADDR ISN TOP, of numbers
+node_of_numbers : (addr isn0 top0 : ℕ) → addr ≤ 4294967295 → isn0 ≤ 4294967295 → top0 ≤ 2000000000
+    → node_at (node_text (record { addr = Some addr; isn0 = Some isn0; top0 = Some top0 })) ≡ Some (record { addr = Some addr; isn0 = Some isn0; top0 = Some top0 }, [])
+unfolding node_at and_then after
+node_of_numbers addr isn0 top0 a i t =
+    rw (
+      address_again addr (codes " " ++ (decimal isn0 ++ (codes " " ++ decimal top0))) a refl,
+      number_again isn0 (codes " " ++ decimal top0) (omega arith) refl,
+      number_last top0 (omega arith),
+    ) refl
+
+-- the same of numbers that are there
+node_of_options : (addr isn0 top0 : Option ℕ) → is_node_in_range (record { addr = addr; isn0 = isn0; top0 = top0 }) ≡ true
+    → node_at (node_text (record { addr = addr; isn0 = isn0; top0 = top0 })) ≡ Some (record { addr = addr; isn0 = isn0; top0 = top0 }, [])
+node_of_options addr isn0 top0 range =
+    let bounds = and_parts (within 1 addr 4294967295) _ range in
+    let others = and_parts (within 0 isn0 4294967295) (within 0 top0 2000000000) bounds.1 in
+    in_bounds 1 addr 4294967295 bounds.0 λ a e x.
+    in_bounds 0 isn0 4294967295 others.0 λ i f y.
+    in_bounds 0 top0 2000000000 others.1 λ t g z.
+    rw (e, f, g) (node_of_numbers a i t x y z)
+
+-- the same of a line
+node_again : (n : NodeLine) → is_node_in_range n ≡ true → node_at (node_text n) ≡ Some (n, [])
+node_again n range = node_of_options n.addr n.isn0 n.top0 range
+
+-- node 0 ADDR ISN TOP
+first_node_again : (n : NodeLine) → is_node_in_range n ≡ true → line_of (line_text (FirstNode n)) ≡ Some (FirstNode n)
+unfolding line_of either_node_line first_node_line and_then after
+first_node_again n range = rw (node_again n range) refl
+
+-- node 1 ADDR ISN TOP
+second_node_again : (n : NodeLine) → is_node_in_range n ≡ true → line_of (line_text (SecondNode n)) ≡ Some (SecondNode n)
+unfolding line_of either_node_line first_node_line second_node_line and_then after
+second_node_again n range = rw (node_again n range) refl
+
+-- sem ID fifo INIT MAX, of numbers
+sem_of_numbers : (id init max : ℕ) → id ≤ 16 → init ≤ max → max ≤ 65535 → line_of (line_text (Sem (Some id) (Some init) (Some max))) ≡ Some (Sem (Some id) (Some init) (Some max))
+unfolding line_of sem_line and_then after
+sem_of_numbers id init max i n m =
+    rw (
+      number_again id (codes " fifo " ++ (decimal init ++ (codes " " ++ decimal max))) (omega arith) refl,
+      number_again init (codes " " ++ decimal max) (omega arith) refl,
+      number_last max (omega arith),
+    ) refl
+
+-- the same of numbers that are there
+sem_again : (id init max : Option ℕ) → is_in_range (Sem id init max) ≡ true → line_of (line_text (Sem id init max)) ≡ Some (Sem id init max)
+sem_again id init max range =
+    let bounds = and_parts (within 1 id 16) _ range in
+    let counts = and_parts (is_at_most init max) (within 1 max 65535) bounds.1 in
+    in_bounds 1 id 16 bounds.0 λ i e x.
+    in_bounds 1 max 65535 counts.1 λ m f y.
+    at_most init m (rw f at counts.0) λ n g z.
+    rw (e, f, g) (sem_of_numbers i n m x z y)
+
+-- task ID PRI act, of numbers
+task_of_numbers : (id pri : ℕ) → id ≤ 16 → pri ≤ 16 → line_of (line_text (Task (Some id) (Some pri))) ≡ Some (Task (Some id) (Some pri))
+unfolding line_of task_line and_then after
+task_of_numbers id pri i p =
+    rw (
+      number_again id (codes " " ++ (decimal pri ++ codes " act")) (omega arith) refl,
+      number_again pri (codes " act") (omega arith) refl,
+    ) refl
+
+-- the same of numbers that are there
+task_again : (id pri : Option ℕ) → is_in_range (Task id pri) ≡ true → line_of (line_text (Task id pri)) ≡ Some (Task id pri)
+task_again id pri range =
+    let bounds = and_parts (within 1 id 16) (within 1 pri 16) range in
+    in_bounds 1 id 16 bounds.0 λ i e x.
+    in_bounds 1 pri 16 bounds.1 λ p f y.
+    rw (e, f) (task_of_numbers i p x y)
+
+-- ---- calls
+
+-- sig_sem ID
+sig_sem_again : (sem : ObjId) → ltb sem.0 4294967296 ≡ true → line_of (line_text (Call (requests.SigSem sem) true)) ≡ Some (Call (requests.SigSem sem) true)
+unfolding line_of sig_sem_line and_then after
+sig_sem_again sem small = rw (number_last sem.0 (omega (arith, ltb-true sem.0 4294967296 small)), small) refl
+
+-- pol and fevr
+timeout_again : (tmo : Tmo) → is_written_timeout tmo ≡ true → timeout_at (timeout_text tmo) ≡ Some (tmo, [])
+unfolding timeout_at timeout_word and_then after
+timeout_again timeouts.Pol e = refl
+timeout_again timeouts.Nblk e = absurd (let none : false ≡ true = e in cc)
+timeout_again timeouts.Fevr e = refl
+timeout_again (timeouts.Ms ticks) e = absurd (let none : false ≡ true = e in cc)
+
+-- twai_sem ID TMO
+twai_sem_again : (sem : ObjId) (tmo : Tmo) → is_written_call (requests.TwaiSem sem tmo) ≡ true → line_of (line_text (Call (requests.TwaiSem sem tmo) true)) ≡ Some (Call (requests.TwaiSem sem tmo) true)
+unfolding line_of twai_sem_line and_then after
+twai_sem_again sem tmo written =
+    let parts = and_parts (ltb sem.0 4294967296) (is_written_timeout tmo) written in
+    rw (number_again sem.0 (codes " " ++ timeout_text tmo) (omega (arith, ltb-true sem.0 4294967296 parts.0)) refl, parts.0, timeout_again tmo parts.1) refl
+
+-- a call that can be written
+call_again : (request : Req) → is_written_call request ≡ true → line_of (line_text (Call request true)) ≡ Some (Call request true)
+call_again requests.ExtTsk written = absurd (let none : false ≡ true = written in cc)
+call_again (requests.SigSem sem) written = sig_sem_again sem written
+call_again (requests.TwaiSem sem tmo) written = twai_sem_again sem tmo written
+
+-- itron 1
+itron_again : line_of (line_text Itron) ≡ Some Itron
+unfolding line_of itron_line and_then after
+itron_again = refl
+
+-- end
+end_again : line_of (line_text End) ≡ Some End
+unfolding line_of
+end_again = refl
+
+-- each line in its ranges, whose call can be written, is read again from its text
+pub line_again : (l : ScriptLine) → is_in_range l ≡ true → is_written l ≡ true → line_of (line_text l) ≡ Some l
+line_again Itron range written = itron_again
+line_again (Link key) range written = link_again key range
+line_again (Ticks ticks) range written = ticks_again ticks range
+line_again (FirstNode n) range written = first_node_again n range
+line_again (SecondNode n) range written = second_node_again n range
+line_again (Sem id init max) range written = sem_again id init max range
+line_again (Task id pri) range written = task_again id pri range
+line_again (Call request true) range written = call_again request written
+line_again (Call request false) range written = absurd (let none : false ≡ true = range in cc)
+line_again End range written = end_again

@@ -1,0 +1,243 @@
+-- A line that is read in its ranges is spelled as it is printed.
+use Rattle.std.proofs.Common.{◌≡◌, ℕ, Bool, true, false, ltb, List, [], ◌∷◌, ◌++◌, Option, Some, None, is_some, unwrap_or, codes, refl, sym, ap, subst, ◌∙◌, append_assoc, inl, inr}
+use Rattle.std.specs.Prelude.{nat_eq}
+use Rattle.std.specs.List.{AllByRecursion}
+use Rattle.std.specs.Cmp.Lexicographic.{pointwise}
+use Rattle.std.proofs.lemmas.Bool.{cases_Bool, and_parts, and_from}
+use Rattle.std.proofs.lemmas.List.{append-nil}
+use Rattle.std.proofs.lemmas.Slice.Eq.{bytes_eq-Decides}
+use Rattle.it_types.specs.declared.request.Req.TheVariants as requests
+use Rattle.it_types.specs.declared.timeout.Tmo.{Tmo}
+use Rattle.it_types.specs.declared.timeout.Tmo.TheVariants as timeouts
+use Rattle.it_types.specs.Spelling.{timeout_text}
+use Rattle.spec_script.specs.declared.script_line.ScriptLine.{ScriptLine}
+use Rattle.spec_script.specs.declared.script_line.ScriptLine.TheVariants.{Itron, Link, Ticks, FirstNode, SecondNode, Sem, Task, Call, End}
+use Rattle.spec_script.specs.declared.script_line.NodeLine.{NodeLine}
+use Rattle.spec_script.specs.Lines.{line_text, number_text, node_text}
+use Rattle.spec_script.specs.Ranges.{within, is_at_most, is_node_in_range, is_in_range, is_written_timeout, is_written_call}
+use Rattle.s_script.specs.Cursor.{or_else, at_end, split_while}
+use Rattle.s_script.specs.LineKinds.{timeout_word, timeout_at, object_of, is_object, sig_sem_line, twai_sem_line, itron_line, link_line, ticks_line, node_at, first_node_line, second_node_line, either_node_line, sem_line, task_line, end_line, is_no_space, Kinds, call_kinds, other_kinds, by_word, line_of}
+use Rattle.s_script.proofs.Fronts.{split_joins}
+use Rattle.s_script.proofs.Words.{read_step, found_is, at_end_is, after_takes}
+use Rattle.s_script.proofs.Numerals.{number_takes, address_takes}
+
+-- a line whose call, if it is one, can be written
+abbrev pub is_written : ScriptLine → Bool
+is_written (Call request fits) = is_written_call request
+is_written _ = true
+
+-- where the line is in its ranges, the bytes are its text
+pub record Takes (bytes : List ℕ) (l : ScriptLine) : Type 0 where
+  pub fact : is_in_range l ≡ true → (bytes ≡ line_text l) × (is_written l ≡ true)
+
+-- a line that is read up to the end
+at_end_takes : (bytes rest : List ℕ) (made l : ScriptLine) → at_end rest made ≡ Some l → (rest ≡ [] → Takes bytes made) → Takes bytes l
+at_end_takes bytes rest made l e go = let read = at_end_is rest made l e in subst (λ (m : ScriptLine). Takes bytes m) read.1 (go read.0)
+
+-- ---- what ranges say
+
+-- a number in its range is there
+within_some : (low : ℕ) (n : Option ℕ) (high : ℕ) → within low n high ≡ true → is_some n ≡ true
+within_some low None high e = absurd (let none : false ≡ true = e in cc)
+within_some low (Some n) high e = refl
+
+-- a number that is at most another is there
+at_most_some : (m n : Option ℕ) → is_at_most m n ≡ true → is_some m ≡ true
+at_most_some (Some m) n e = refl
+at_most_some None n e = absurd (let none : false ≡ true = e in cc)
+
+-- ---- one lemma for each kind of line
+
+-- itron 1
+pub itron_takes : (bytes : List ℕ) (l : ScriptLine) → itron_line bytes ≡ Some l → Takes (codes "itron" ++ bytes) l
+unfolding itron_line
+itron_takes bytes l e =
+    read_step e λ rest p e1. at_end_takes (codes "itron" ++ bytes) rest Itron l e1 (λ nil. record { fact = λ range. (rw (after_takes (codes " 1") bytes rest p, nil) refl, refl) })
+
+-- link KEY 0 0 0
+pub link_takes : (bytes : List ℕ) (l : ScriptLine) → link_line bytes ≡ Some l → Takes (codes "link" ++ bytes) l
+unfolding link_line
+link_takes bytes l e =
+    read_step e λ rest p e1. read_step e1 λ key q e2. read_step e2 λ end r e3.
+    at_end_takes (codes "link" ++ bytes) end (Link key.0) l e3 (λ nil. record {
+      fact = λ range. (
+        rw (after_takes (codes " ") bytes rest p, number_takes rest key q (within_some _ key.0 _ range), after_takes (codes " 0 0 0") key.1 end r, nil) refl,
+        refl,
+      );
+    })
+
+-- ticks T
+pub ticks_takes : (bytes : List ℕ) (l : ScriptLine) → ticks_line bytes ≡ Some l → Takes (codes "ticks" ++ bytes) l
+unfolding ticks_line
+ticks_takes bytes l e =
+    read_step e λ rest p e1. read_step e1 λ ticks q e2.
+    at_end_takes (codes "ticks" ++ bytes) ticks.1 (Ticks ticks.0) l e2 (λ nil. record {
+      fact = λ range. (
+        rw (after_takes (codes " ") bytes rest p, number_takes rest ticks q (within_some _ ticks.0 _ range), nil, append-nil (number_text ticks.0)) refl,
+        refl,
+      );
+    })
+
+-- ADDR ISN TOP
+node_takes : (bytes : List ℕ) (x : NodeLine × List ℕ) → node_at bytes ≡ Some x → is_node_in_range x.0 ≡ true → bytes ≡ node_text x.0 ++ x.1
+unfolding node_at
+node_takes bytes x e range =
+    read_step e λ addr p e1. read_step e1 λ rest1 q e2. read_step e2 λ isn0 r e3. read_step e3 λ rest2 s e4. read_step e4 λ top0 t e5.
+    let node : NodeLine = record { addr = addr.0; isn0 = isn0.0; top0 = top0.0 } in
+    let made : (node, top0.1) ≡ x = found_is (node, top0.1) x e5 in
+    let bounds = and_parts (within 1 addr.0 4294967295) _ (subst (λ (y : NodeLine × List ℕ). is_node_in_range y.0 ≡ true) (sym made) range) in
+    let others = and_parts (within 0 isn0.0 4294967295) (within 0 top0.0 2000000000) bounds.1 in
+    let whole : bytes ≡ node_text node ++ top0.1 =
+    rw (address_takes bytes addr p (within_some _ addr.0 _ bounds.0), after_takes (codes " ") addr.1 rest1 q, number_takes rest1 isn0 r (within_some _ isn0.0 _ others.0), after_takes (codes " ") isn0.1 rest2 s, number_takes rest2 top0 t (within_some _ top0.0 _ others.1)) (simp append_assoc) in
+    whole ∙ ap (λ (y : NodeLine × List ℕ). node_text y.0 ++ y.1) made
+
+-- node 0 ADDR ISN TOP
+first_node_takes : (bytes : List ℕ) (l : ScriptLine) → first_node_line bytes ≡ Some l → Takes (codes "node" ++ bytes) l
+unfolding first_node_line
+first_node_takes bytes l e =
+    read_step e λ rest p e1. read_step e1 λ node q e2.
+    at_end_takes (codes "node" ++ bytes) node.1 (FirstNode node.0) l e2 (λ nil. record {
+      fact = λ range. (
+        rw (after_takes (codes " 0 ") bytes rest p, node_takes rest node q range, nil, append-nil (node_text node.0)) refl,
+        refl,
+      );
+    })
+
+-- node 1 ADDR ISN TOP
+second_node_takes : (bytes : List ℕ) (l : ScriptLine) → second_node_line bytes ≡ Some l → Takes (codes "node" ++ bytes) l
+unfolding second_node_line
+second_node_takes bytes l e =
+    read_step e λ rest p e1. read_step e1 λ node q e2.
+    at_end_takes (codes "node" ++ bytes) node.1 (SecondNode node.0) l e2 (λ nil. record {
+      fact = λ range. (
+        rw (after_takes (codes " 1 ") bytes rest p, node_takes rest node q range, nil, append-nil (node_text node.0)) refl,
+        refl,
+      );
+    })
+
+-- what the first or else the second reads
+either : {A P : Type 0} (first second : Option A) (y : A) → or_else first second ≡ Some y → (first ≡ Some y → P) → (second ≡ Some y → P) → P
+either None second y e one other = other e
+either (Some x) second y e one other = one e
+
+-- either node
+pub node_kind_takes : (bytes : List ℕ) (l : ScriptLine) → either_node_line bytes ≡ Some l → Takes (codes "node" ++ bytes) l
+unfolding either_node_line
+node_kind_takes bytes l e = either (first_node_line bytes) (second_node_line bytes) l e (first_node_takes bytes l) (second_node_takes bytes l)
+
+-- sem ID fifo INIT MAX
+pub sem_takes : (bytes : List ℕ) (l : ScriptLine) → sem_line bytes ≡ Some l → Takes (codes "sem" ++ bytes) l
+unfolding sem_line
+sem_takes bytes l e =
+    read_step e λ rest1 p e1. read_step e1 λ id q e2. read_step e2 λ rest2 r e3. read_step e3 λ init s e4. read_step e4 λ rest3 t e5. read_step e5 λ max u e6.
+    at_end_takes (codes "sem" ++ bytes) max.1 (Sem id.0 init.0 max.0) l e6 (λ nil. record {
+      fact = λ range.
+          let bounds = and_parts (within 1 id.0 16) _ range in
+          let counts = and_parts (is_at_most init.0 max.0) (within 1 max.0 65535) bounds.1 in (
+            rw (after_takes (codes " ") bytes rest1 p, number_takes rest1 id q (within_some _ id.0 _ bounds.0), after_takes (codes " fifo ") id.1 rest2 r, number_takes rest2 init s (at_most_some init.0 max.0 counts.0), after_takes (codes " ") init.1 rest3 t, number_takes rest3 max u (within_some _ max.0 _ counts.1), nil, append-nil (number_text max.0)) refl,
+            refl,
+          );
+    })
+
+-- task ID PRI act
+pub task_takes : (bytes : List ℕ) (l : ScriptLine) → task_line bytes ≡ Some l → Takes (codes "task" ++ bytes) l
+unfolding task_line
+task_takes bytes l e =
+    read_step e λ rest1 p e1. read_step e1 λ id q e2. read_step e2 λ rest2 r e3. read_step e3 λ pri s e4. read_step e4 λ end t e5.
+    at_end_takes (codes "task" ++ bytes) end (Task id.0 pri.0) l e5 (λ nil. record {
+      fact = λ range.
+          let bounds = and_parts (within 1 id.0 16) (within 1 pri.0 16) range in (
+            rw (after_takes (codes " ") bytes rest1 p, number_takes rest1 id q (within_some _ id.0 _ bounds.0), after_takes (codes " ") id.1 rest2 r, number_takes rest2 pri s (within_some _ pri.0 _ bounds.1), after_takes (codes " act") pri.1 end t, nil) refl,
+            refl,
+          );
+    })
+
+-- end
+pub end_takes : (bytes : List ℕ) (l : ScriptLine) → end_line bytes ≡ Some l → Takes (codes "end" ++ bytes) l
+end_takes bytes l e = at_end_takes (codes "end" ++ bytes) bytes End l e (λ nil. record { fact = λ range. (rw nil refl, refl) })
+
+-- ---- calls
+
+-- an id that has 32 bits
+pub record IsId (id : Option ℕ) : Type 0 where
+  pub some : is_some id ≡ true
+  pub same : (object_of id).0 ≡ unwrap_or id 0
+  pub small : ltb (object_of id).0 4294967296 ≡ true
+
+-- an id that fits is its number
+object_is : (id : Option ℕ) → is_object id ≡ true → IsId id
+object_is None e = absurd (let none : false ≡ true = e in cc)
+object_is (Some n) e =
+    elim (cases_Bool (ltb n 4294967296)) [
+      | inl t ↦ record { some = refl; same = rw t refl; small = rw t t }
+      | inr f ↦ absurd (let none : false ≡ true = rw f at e in cc)
+    ]
+
+-- the word of a time-out
+timeout_word_takes : (word bytes : List ℕ) (timeout : Tmo) (x : Tmo × List ℕ) → timeout_word word timeout bytes ≡ Some x → word ≡ timeout_text timeout → is_written_timeout timeout ≡ true → (bytes ≡ timeout_text x.0 ++ x.1) × (is_written_timeout x.0 ≡ true)
+unfolding timeout_word
+timeout_word_takes word bytes timeout x e spelled written =
+    read_step e λ rest p e1.
+    let made : (timeout, rest) ≡ x = found_is (timeout, rest) x e1 in
+    subst (λ (y : Tmo × List ℕ). (bytes ≡ timeout_text y.0 ++ y.1) × (is_written_timeout y.0 ≡ true)) made (after_takes word bytes rest p ∙ ap (λ (t : List ℕ). t ++ rest) spelled, written)
+
+-- pol and fevr
+timeout_takes : (bytes : List ℕ) (x : Tmo × List ℕ) → timeout_at bytes ≡ Some x → (bytes ≡ timeout_text x.0 ++ x.1) × (is_written_timeout x.0 ≡ true)
+unfolding timeout_at
+timeout_takes bytes x e =
+    either (timeout_word (codes "pol") timeouts.Pol bytes) (timeout_word (codes "fevr") timeouts.Fevr bytes) x e
+    (λ a. timeout_word_takes (codes "pol") bytes timeouts.Pol x a refl refl)
+    (λ b. timeout_word_takes (codes "fevr") bytes timeouts.Fevr x b refl refl)
+
+-- sig_sem ID
+pub sig_sem_takes : (bytes : List ℕ) (l : ScriptLine) → sig_sem_line bytes ≡ Some l → Takes (codes "sig_sem" ++ bytes) l
+unfolding sig_sem_line
+sig_sem_takes bytes l e =
+    read_step e λ rest p e1. read_step e1 λ sem q e2.
+    at_end_takes (codes "sig_sem" ++ bytes) sem.1 (Call (requests.SigSem (object_of sem.0)) (is_object sem.0)) l e2 (λ nil. record {
+      fact = λ range.
+          let id = object_is sem.0 range in (
+            rw (after_takes (codes " ") bytes rest p, number_takes rest sem q id.some, nil, id.same, append-nil (number_text sem.0)) refl,
+            id.small,
+          );
+    })
+
+-- twai_sem ID TMO
+pub twai_sem_takes : (bytes : List ℕ) (l : ScriptLine) → twai_sem_line bytes ≡ Some l → Takes (codes "twai_sem" ++ bytes) l
+unfolding twai_sem_line
+twai_sem_takes bytes l e =
+    read_step e λ rest1 p e1. read_step e1 λ sem q e2. read_step e2 λ rest2 r e3. read_step e3 λ timeout s e4.
+    at_end_takes (codes "twai_sem" ++ bytes) timeout.1 (Call (requests.TwaiSem (object_of sem.0) timeout.0) (is_object sem.0)) l e4 (λ nil. record {
+      fact = λ range.
+          let id = object_is sem.0 range in
+          let wait = timeout_takes rest2 timeout s in (
+            rw (after_takes (codes " ") bytes rest1 p, number_takes rest1 sem q id.some, after_takes (codes " ") sem.1 rest2 r, wait.0, nil, id.same, append-nil (timeout_text timeout.0)) refl,
+            and_from (ltb (object_of sem.0).0 4294967296) (is_written_timeout timeout.0) id.small wait.1,
+          );
+    })
+
+-- ---- by the first word
+
+-- a kind of line whose lines are spelled as they are printed
+abbrev KindTakes : List ℕ × (List ℕ → Option ScriptLine) → Type 0
+KindTakes kind = (bytes : List ℕ) (l : ScriptLine) → kind.1 bytes ≡ Some l → Takes (kind.0 ++ bytes) l
+
+-- kinds that take what they are spelled from do so by their words
+by_word_takes : (kinds : Kinds) → AllByRecursion KindTakes kinds → (word bytes : List ℕ) (l : ScriptLine) → by_word kinds word bytes ≡ Some l → Takes (word ++ bytes) l
+by_word_takes [] all word bytes l e = absurd cc
+by_word_takes (kind ∷ kinds) all word bytes l e =
+    elim (cases_Bool (pointwise nat_eq word kind.0)) [
+      | inl t ↦ rw ((bytes_eq-Decides word kind.0).0 t) (all.0 bytes l (rw t at e))
+      | inr f ↦ by_word_takes kinds all.1 word bytes l (rw f at e)
+    ]
+
+-- each kind does
+all_take : AllByRecursion KindTakes (other_kinds ++ call_kinds)
+all_take = (itron_takes, (link_takes, (ticks_takes, (node_kind_takes, (sem_takes, (task_takes, (end_takes, (sig_sem_takes, (twai_sem_takes, tt)))))))))
+
+-- each line that is read in its ranges is spelled as it is printed
+pub line_takes : (bytes : List ℕ) (l : ScriptLine) → line_of bytes ≡ Some l → Takes bytes l
+unfolding line_of
+line_takes bytes l e =
+    let parts : List ℕ × List ℕ = split_while is_no_space bytes in
+    rw (split_joins is_no_space bytes) (by_word_takes (other_kinds ++ call_kinds) all_take parts.0 parts.1 l e)

@@ -1,0 +1,169 @@
+-- The lines of a text, where none has an LF in it.
+use Rattle.std.proofs.Common.{◌≡◌, ℕ, ◌/◌, ◌%◌, ◌<◌, ◌≤◌, Bool, true, false, eqb, ltb, leb, List, [], ◌∷◌, ◌++◌, Option, codes, refl, ap, ◌∙◌, append_assoc, inl, inr, arith}
+use Rattle.std.specs.List.{list_all, flat_map, filter}
+use Rattle.std.specs.Char.{is_ascii_digit}
+use Rattle.std.specs.Fmt.{decimal}
+use Rattle.std.proofs.lemmas.Bool.{cases_Bool, and_parts, not-true, ne_eqb, leb-true, ltb-true}
+use Rattle.std.proofs.lemmas.List.Folds.{list_all-append}
+use Rattle.it_types.specs.declared.request.Req.{Req}
+use Rattle.it_types.specs.declared.request.Req.TheVariants as requests
+use Rattle.it_types.specs.declared.timeout.Tmo.{Tmo}
+use Rattle.it_types.specs.declared.timeout.Tmo.TheVariants as timeouts
+use Rattle.it_types.specs.Address.{address_text}
+use Rattle.it_types.specs.Spelling.{timeout_text}
+use Rattle.spec_script.specs.declared.script_line.ScriptLine.{ScriptLine}
+use Rattle.spec_script.specs.declared.script_line.ScriptLine.TheVariants.{Itron, Link, Ticks, FirstNode, SecondNode, Sem, Task, Call, End}
+use Rattle.spec_script.specs.Lines.{line_text, node_text, ended}
+use Rattle.spec_script.specs.Ranges.{within, is_at_most, is_node_in_range, is_in_range, is_written_timeout, is_written_call}
+use Rattle.spec_script.specs.Text.{onto_first, split_lines}
+use Rattle.s_script.proofs.Fronts.{is_no_lf}
+use Rattle.s_script.proofs.Numerals.{decimal_digits}
+use Rattle.s_script.proofs.LineTakes.{is_written}
+use Rattle.s_script.proofs.LineAgain.{in_bounds, at_most}
+
+-- ---- lines and their text
+
+-- bytes without LF
+abbrev pub is_plain : List ℕ → Bool
+is_plain bytes = list_all is_no_lf bytes
+
+-- a plain line is split off
+pub split_ended : (line more : List ℕ) → is_plain line ≡ true → split_lines (ended line ++ more) ≡ (line ∷ (split_lines more).0, (split_lines more).1)
+unfolding split_lines
+split_ended [] more plain = refl
+split_ended (b ∷ line) more plain =
+    let parts = and_parts (is_no_lf b) (is_plain line) plain in
+    let no_end : eqb b 10 ≡ false = not-true (eqb b 10) parts.0 in
+    rw (no_end, split_ended line more parts.1) refl
+
+-- a plain rest has no line
+pub split_rest : (rest : List ℕ) → is_plain rest ≡ true → split_lines rest ≡ ([], rest)
+unfolding split_lines
+split_rest [] plain = refl
+split_rest (b ∷ rest) plain =
+    let parts = and_parts (is_no_lf b) (is_plain rest) plain in
+    let no_end : eqb b 10 ≡ false = not-true (eqb b 10) parts.0 in
+    rw (no_end, split_rest rest parts.1) refl
+
+-- lines that are joined are split again
+pub split_joined : (lines : List (List ℕ)) (rest : List ℕ) → list_all is_plain lines ≡ true → is_plain rest ≡ true → split_lines (flat_map ended lines ++ rest) ≡ (lines, rest)
+split_joined [] rest plain plain_rest = split_rest rest plain_rest
+split_joined (line ∷ lines) rest plain plain_rest =
+    let parts = and_parts (is_plain line) (list_all is_plain lines) plain in
+    ap split_lines (append_assoc (ended line) (flat_map ended lines) rest) ∙ split_ended line (flat_map ended lines ++ rest) parts.0
+    ∙ ap (λ (x : List (List ℕ) × List ℕ). (line ∷ x.0, x.1)) (split_joined lines rest parts.1 plain_rest)
+
+-- the lines and the rest of a text are plain
+pub record ArePlain (parts : List (List ℕ) × List ℕ) : Type 0 where
+  pub lines : list_all is_plain parts.0 ≡ true
+  pub rest : is_plain parts.1 ≡ true
+
+-- one more byte that is no LF
+plain_onto : (b : ℕ) (lines : List (List ℕ)) (rest : List ℕ) → eqb b 10 ≡ false → ArePlain (lines, rest) → ArePlain (onto_first b (lines, rest))
+plain_onto b [] rest f plain = record { lines = refl; rest = rw f plain.rest }
+plain_onto b (line ∷ lines) rest f plain = record { lines = rw f plain.lines; rest = plain.rest }
+
+-- the lines of a text are plain
+pub split_plain : (text : List ℕ) → ArePlain (split_lines text)
+unfolding split_lines
+split_plain [] = record { lines = refl; rest = refl }
+split_plain (b ∷ text) =
+    let more = split_plain text in
+    elim (cases_Bool (eqb b 10)) [
+      | inl t ↦ rw t (record { lines = more.lines; rest = more.rest })
+      | inr f ↦ rw f (plain_onto b (split_lines text).0 (split_lines text).1 f more)
+    ]
+
+-- so are those that a filter keeps
+pub filter_plain : (test : List ℕ → Bool) (lines : List (List ℕ)) → list_all is_plain lines ≡ true → list_all is_plain (filter test lines) ≡ true
+filter_plain test [] plain = refl
+filter_plain test (line ∷ lines) plain =
+    let parts = and_parts (is_plain line) (list_all is_plain lines) plain in
+    elim (cases_Bool (test line)) [
+      | inl t ↦ rw t (rw (parts.0, filter_plain test lines parts.1) refl)
+      | inr f ↦ rw f (filter_plain test lines parts.1)
+    ]
+
+-- ---- the text of a line is plain
+
+-- a digit is no LF
+digit_plain : (b : ℕ) → is_ascii_digit b ≡ true → is_no_lf b ≡ true
+digit_plain b digit =
+    let other : eqb b 10 ≡ false = ne_eqb b 10 (λ e. omega (arith, leb-true 48 b (and_parts (leb 48 b) (leb b 57) digit).0)) in
+    rw other refl
+
+-- digits are plain
+all_plain : (ds : List ℕ) → list_all is_ascii_digit ds ≡ true → is_plain ds ≡ true
+all_plain [] digits = refl
+all_plain (d ∷ ds) digits = let parts = and_parts (is_ascii_digit d) (list_all is_ascii_digit ds) digits in rw (digit_plain d parts.0, all_plain ds parts.1) refl
+
+-- a number is plain
+number_plain : (n : ℕ) → n < 18446744073709551616 → is_plain (decimal n) ≡ true
+number_plain n fits = all_plain (decimal n) (decimal_digits n fits)
+
+-- a number and what follows it
+then_plain : (n : ℕ) (rest : List ℕ) → n < 18446744073709551616 → is_plain rest ≡ true → is_plain (decimal n ++ rest) ≡ true
+then_plain n rest fits plain = rw (list_all-append is_no_lf (decimal n) rest, number_plain n fits, plain) refl
+
+-- an address and what follows it
+address_plain : (addr : ℕ) (rest : List ℕ) → addr ≤ 4294967295 → is_plain rest ≡ true → is_plain (address_text addr ++ rest) ≡ true
+address_plain addr rest high plain =
+    rw (list_all-append is_no_lf (address_text addr) rest, plain)
+    (rw (then_plain (addr / 16777216) (codes "." ++ (decimal (addr / 65536 % 256) ++ (codes "." ++ (decimal (addr / 256 % 256) ++ (codes "." ++ decimal (addr % 256)))))) (omega arith)
+    (then_plain (addr / 65536 % 256) (codes "." ++ (decimal (addr / 256 % 256) ++ (codes "." ++ decimal (addr % 256)))) (omega arith)
+    (then_plain (addr / 256 % 256) (codes "." ++ decimal (addr % 256)) (omega arith) (number_plain (addr % 256) (omega arith))))) refl)
+
+-- ADDR ISN TOP
+node_plain : (addr isn0 top0 : Option ℕ) → is_node_in_range (record { addr = addr; isn0 = isn0; top0 = top0 }) ≡ true → is_plain (node_text (record { addr = addr; isn0 = isn0; top0 = top0 })) ≡ true
+node_plain addr isn0 top0 range =
+    let bounds = and_parts (within 1 addr 4294967295) _ range in
+    let others = and_parts (within 0 isn0 4294967295) (within 0 top0 2000000000) bounds.1 in
+    in_bounds 1 addr 4294967295 bounds.0 λ a e x.
+    in_bounds 0 isn0 4294967295 others.0 λ i f y.
+    in_bounds 0 top0 2000000000 others.1 λ t g z.
+    rw (e, f, g) (address_plain a (codes " " ++ (decimal i ++ (codes " " ++ decimal t))) x (then_plain i (codes " " ++ decimal t) (omega arith) (number_plain t (omega arith))))
+
+-- sem ID fifo INIT MAX
+sem_plain : (id init max : Option ℕ) → is_in_range (Sem id init max) ≡ true → is_plain (line_text (Sem id init max)) ≡ true
+sem_plain id init max range =
+    let bounds = and_parts (within 1 id 16) _ range in
+    let counts = and_parts (is_at_most init max) (within 1 max 65535) bounds.1 in
+    in_bounds 1 id 16 bounds.0 λ i e x.
+    in_bounds 1 max 65535 counts.1 λ m f y.
+    at_most init m (rw f at counts.0) λ n g z.
+    rw (e, f, g) (then_plain i (codes " fifo " ++ (decimal n ++ (codes " " ++ decimal m))) (omega arith) (then_plain n (codes " " ++ decimal m) (omega arith) (number_plain m (omega arith))))
+
+-- task ID PRI act
+task_plain : (id pri : Option ℕ) → is_in_range (Task id pri) ≡ true → is_plain (line_text (Task id pri)) ≡ true
+task_plain id pri range =
+    let bounds = and_parts (within 1 id 16) (within 1 pri 16) range in
+    in_bounds 1 id 16 bounds.0 λ i e x.
+    in_bounds 1 pri 16 bounds.1 λ p f y.
+    rw (e, f) (then_plain i (codes " " ++ (decimal p ++ codes " act")) (omega arith) (then_plain p (codes " act") (omega arith) refl))
+
+-- pol and fevr
+timeout_plain : (tmo : Tmo) → is_written_timeout tmo ≡ true → is_plain (timeout_text tmo) ≡ true
+timeout_plain timeouts.Pol e = refl
+timeout_plain timeouts.Nblk e = refl
+timeout_plain timeouts.Fevr e = refl
+timeout_plain (timeouts.Ms ticks) e = absurd (let none : false ≡ true = e in cc)
+
+-- a call that can be written
+call_plain : (request : Req) → is_written_call request ≡ true → is_plain (line_text (Call request true)) ≡ true
+call_plain requests.ExtTsk written = refl
+call_plain (requests.SigSem sem) written = number_plain sem.0 (omega (arith, ltb-true sem.0 4294967296 written))
+call_plain (requests.TwaiSem sem tmo) written =
+    let parts = and_parts (ltb sem.0 4294967296) (is_written_timeout tmo) written in
+    then_plain sem.0 (codes " " ++ timeout_text tmo) (omega (arith, ltb-true sem.0 4294967296 parts.0)) (timeout_plain tmo parts.1)
+
+-- each line in its ranges, whose call can be written, is plain
+pub line_plain : (l : ScriptLine) → is_in_range l ≡ true → is_written l ≡ true → is_plain (line_text l) ≡ true
+line_plain Itron range written = refl
+line_plain (Link key) range written = in_bounds 0 key 18446744073709551615 range λ k e high. rw e (then_plain k (codes " 0 0 0") (omega arith) refl)
+line_plain (Ticks ticks) range written = in_bounds 0 ticks 400000 range λ t e high. rw e (number_plain t (omega arith))
+line_plain (FirstNode n) range written = node_plain n.addr n.isn0 n.top0 range
+line_plain (SecondNode n) range written = node_plain n.addr n.isn0 n.top0 range
+line_plain (Sem id init max) range written = sem_plain id init max range
+line_plain (Task id pri) range written = task_plain id pri range
+line_plain (Call request fits) range written = call_plain request written
+line_plain End range written = refl

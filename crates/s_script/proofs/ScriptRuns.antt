@@ -1,0 +1,205 @@
+-- The lines of a good script are taken one after the other, and make that script.
+use Rattle.std.proofs.Common.{◌≡◌, ℕ, ◌+◌, ◌≤◌, Bool, true, false, not, ◌&&◌, eqb, ltb, leb, List, [], ◌∷◌, ◌++◌, length, map, Some, refl, sym, ap, ◌∙◌, subst, append_assoc, arith}
+use Rattle.std.specs.Prelude.{slice_index_or}
+use Rattle.std.specs.List.{list_all, flat_map}
+use Rattle.std.proofs.lemmas.Bool.{and_parts, not-true, ne_eqb, leb-true, lt-ltb}
+use Rattle.std.proofs.lemmas.List.{append-nil, length_push}
+use Rattle.std.proofs.lemmas.List.Folds.{list_all-append}
+use Rattle.it_types.specs.declared.conf.TaskDecl.{TaskDecl}
+use Rattle.it_types.specs.declared.conf.SemDecl.{SemDecl}
+use Rattle.spec_script.specs.declared.script.Script.{Script}
+use Rattle.spec_script.specs.declared.script.NodeDecl.{NodeDecl}
+use Rattle.spec_script.specs.declared.decl.Decl.{Decl}
+use Rattle.spec_script.specs.declared.decl.Decl.TheVariants as declarations
+use Rattle.spec_script.specs.declared.decl.Body.{Body}
+use Rattle.spec_script.specs.declared.decl.Line.{Line}
+use Rattle.spec_script.specs.declared.decl.Line.TheVariants as body_lines
+use Rattle.spec_script.specs.declared.script_line.ScriptLine.{ScriptLine}
+use Rattle.spec_script.specs.declared.script_line.ScriptLine.TheVariants.{Link, Ticks, FirstNode, SecondNode, Sem, Task, End}
+use Rattle.spec_script.specs.Lines.{no_node, first_node, second_node, key_of, node_line, body_line, declaration_lines, lines_of}
+use Rattle.spec_script.specs.Ranges.{is_in_range, is_repeated, is_written_call, is_written_line, is_written_declaration, are_distinct, IsGood}
+use Rattle.s_script.specs.declared.draft.Stage.TheVariants.{Declares, InTask, Whole}
+use Rattle.s_script.specs.declared.draft.Draft.{Draft}
+use Rattle.s_script.specs.Drafts.{no_task, start, script_of, moved}
+use Rattle.s_script.proofs.Kept.{Passes}
+use Rattle.s_script.proofs.LineTakes.{is_written}
+
+-- each line passes its tests and can be written, and P holds of the draft after the last
+abbrev pub Runs : (Draft → Type 0) → Draft → List ScriptLine → Type 0
+Runs P d [] = P d
+Runs P d (l ∷ ls) = Passes d l × (is_written l ≡ true) × Runs P (moved d l) ls
+
+-- ---- a body
+
+-- a draft with an open task
+abbrev in_task : ℕ → ℕ → NodeDecl → TaskDecl → List Line → Draft
+in_task key ticks n task body = record { stage = InTask; key = key; ticks = ticks; first = n; second = no_node; task = task; body = body }
+
+-- a body's calls are taken one after the other
+body_runs : (P : Draft → Type 0) (lines : List Line) (key ticks : ℕ) (n : NodeDecl) (task : TaskDecl) (before : List Line) (more : List ScriptLine)
+    → list_all is_written_line lines ≡ true → length before + length lines ≤ 1000
+    → Runs P (in_task key ticks n task (before ++ lines)) more → Runs P (in_task key ticks n task before) (map body_line lines ++ more)
+body_runs P [] key ticks n task before more written short h = subst (λ (body : List Line). Runs P (in_task key ticks n task body) more) (append-nil before) h
+body_runs P (body_lines.Call request ∷ lines) key ticks n task before more written short h =
+    let parts = and_parts (is_written_call request) (list_all is_written_line lines) written in
+    let room : ltb (length before) 1000 ≡ true = lt-ltb (length before) 1000 (omega arith) in
+    let regrouped : before ++ (body_lines.Call request ∷ lines) ≡ (before ++ (body_lines.Call request ∷ [])) ++ lines = sym (append_assoc before (body_lines.Call request ∷ []) lines) in (
+      record { place = refl; range = refl; room = room; fresh = refl },
+      parts.0,
+      body_runs P lines key ticks n task (before ++ (body_lines.Call request ∷ [])) more parts.1 (omega (arith, length_push before (body_lines.Call request))) (subst (λ (body : List Line). Runs P (in_task key ticks n task body) more) regrouped h),
+    )
+
+-- ---- declarations
+
+-- a draft between declarations
+abbrev between : ℕ → ℕ → NodeDecl → List Decl → TaskDecl → Draft
+between key ticks n before task = record { stage = Declares; key = key; ticks = ticks; first = record n { decls = before }; second = no_node; task = task; body = [] }
+
+-- what declarations after others keep
+record AreGood (before ds : List Decl) : Type 0 where
+  pub ranges : list_all is_in_range (flat_map declaration_lines ds) ≡ true
+  pub written : list_all is_written_declaration ds ≡ true
+  pub distinct : are_distinct before ds ≡ true
+
+-- the first of them, and the others
+record FirstGood (before : List Decl) (d : Decl) (ds : List Decl) : Type 0 where
+  pub ranges : list_all is_in_range (declaration_lines d) ≡ true
+  pub written : is_written_declaration d ≡ true
+  pub fresh : is_repeated before d ≡ false
+  pub others : AreGood (before ++ (d ∷ [])) ds
+
+-- what declarations keep, the first of them and the others keep
+first_good : (before : List Decl) (d : Decl) (ds : List Decl) → AreGood before (d ∷ ds) → FirstGood before d ds
+first_good before d ds g =
+    let ranges = and_parts (list_all is_in_range (declaration_lines d)) (list_all is_in_range (flat_map declaration_lines ds)) (sym (list_all-append is_in_range (declaration_lines d) (flat_map declaration_lines ds)) ∙ g.ranges) in
+    let written = and_parts (is_written_declaration d) (list_all is_written_declaration ds) g.written in
+    let distinct = and_parts (not (is_repeated before d)) (are_distinct (before ++ (d ∷ [])) ds) g.distinct in
+    record { ranges = ranges.0; written = written.0; fresh = not-true (is_repeated before d) distinct.0; others = record { ranges = ranges.1; written = written.1; distinct = distinct.1 } }
+
+-- a written semaphore is one on which tasks wait by arrival
+abbrev sem_of : ℕ → Bool → ℕ → ℕ → SemDecl
+sem_of id pri init max = record { id = id; pri = pri; init = init; max = max }
+
+-- the declaration that its line gives is the same one
+sem_is : (id : ℕ) (pri : Bool) (init max : ℕ) → not pri ≡ true → sem_of id false init max ≡ sem_of id pri init max
+sem_is id false init max e = refl
+sem_is id true init max e = absurd (let none : false ≡ true = e in cc)
+
+-- a semaphore's declaration is taken
+sem_runs : (P : Draft → Type 0) (key ticks : ℕ) (n : NodeDecl) (before : List Decl) (task : TaskDecl) (sem : SemDecl) (ds : List Decl) (more : List ScriptLine)
+    → FirstGood before (declarations.Sem sem) ds → Runs P (between key ticks n (before ++ (declarations.Sem sem ∷ [])) task) more → Runs P (between key ticks n before task) (declaration_lines (declarations.Sem sem) ++ more)
+sem_runs P key ticks n before task sem ds more g h =
+    let range = and_parts (is_in_range (Sem (Some sem.id) (Some sem.init) (Some sem.max))) true g.ranges in (
+      record { place = refl; range = range.0; room = refl; fresh = g.fresh },
+      refl,
+      subst (λ (x : SemDecl). Runs P (between key ticks n (before ++ (declarations.Sem x ∷ [])) task) more) (sym (sem_is sem.id sem.pri sem.init sem.max g.written)) h,
+    )
+
+-- a written task begins at the start
+abbrev task_of : ℕ → ℕ → Bool → TaskDecl
+task_of id pri act = record { id = id; pri = pri; act = act }
+
+-- the task that its line gives is the same one
+task_is : (id pri : ℕ) (act : Bool) → act ≡ true → task_of id pri true ≡ task_of id pri act
+task_is id pri true e = refl
+task_is id pri false e = absurd (let none : false ≡ true = e in cc)
+
+-- a task's declaration is taken
+task_runs : (P : Draft → Type 0) (key ticks : ℕ) (n : NodeDecl) (before : List Decl) (open_task task : TaskDecl) (body : Body) (ds : List Decl) (more : List ScriptLine)
+    → FirstGood before (declarations.Task task body) ds → ((t : TaskDecl) → Runs P (between key ticks n (before ++ (declarations.Task task body ∷ [])) t) more)
+    → Runs P (between key ticks n before open_task) (declaration_lines (declarations.Task task body) ++ more)
+task_runs P key ticks n before open_task task body ds more g h =
+    let t = task_of task.id task.pri true in
+    let range = and_parts (is_in_range (Task (Some task.id) (Some task.pri))) (list_all is_in_range (map body_line body.lines ++ (End ∷ []))) g.ranges in
+    let written = and_parts task.act (leb (length body.lines) 1000 && list_all is_written_line body.lines) g.written in
+    let calls = and_parts (leb (length body.lines) 1000) (list_all is_written_line body.lines) written.1 in
+    let short : 0 + length body.lines ≤ 1000 = omega (arith, leb-true (length body.lines) 1000 calls.0) in
+    let declared_task : Runs P (between key ticks n (before ++ (declarations.Task t body ∷ [])) t) more = subst (λ (x : TaskDecl). Runs P (between key ticks n (before ++ (declarations.Task x body ∷ [])) t) more) (sym (task_is task.id task.pri task.act written.0)) (h t) in
+    let ended : Runs P (in_task key ticks (record n { decls = before }) t body.lines) (End ∷ more) = (record { place = refl; range = refl; room = refl; fresh = refl }, refl, declared_task) in (
+      record { place = refl; range = range.0; room = refl; fresh = g.fresh },
+      refl,
+      subst (λ (ls : List ScriptLine). Runs P (in_task key ticks (record n { decls = before }) t []) ls) (sym (append_assoc (map body_line body.lines) (End ∷ []) more))
+          (body_runs P body.lines key ticks (record n { decls = before }) t [] (End ∷ more) calls.1 short ended),
+    )
+
+-- declarations are taken one after the other
+declarations_run : (P : Draft → Type 0) (ds : List Decl) (key ticks : ℕ) (n : NodeDecl) (before : List Decl) (task : TaskDecl) (more : List ScriptLine)
+    → AreGood before ds → ((t : TaskDecl) → Runs P (between key ticks n (before ++ ds) t) more) → Runs P (between key ticks n before task) (flat_map declaration_lines ds ++ more)
+declarations_run P [] key ticks n before task more g h = subst (λ (x : List Decl). Runs P (between key ticks n x task) more) (append-nil before) (h task)
+declarations_run P (declarations.Sem sem ∷ ds) key ticks n before task more g h =
+    let f = first_good before (declarations.Sem sem) ds g in
+    let regrouped : before ++ (declarations.Sem sem ∷ ds) ≡ (before ++ (declarations.Sem sem ∷ [])) ++ ds = sym (append_assoc before (declarations.Sem sem ∷ []) ds) in
+    sem_runs P key ticks n before task sem ds (flat_map declaration_lines ds ++ more) f
+    (declarations_run P ds key ticks n (before ++ (declarations.Sem sem ∷ [])) task more f.others (λ t. subst (λ (x : List Decl). Runs P (between key ticks n x t) more) regrouped (h t)))
+declarations_run P (declarations.Task own body ∷ ds) key ticks n before task more g h =
+    let f = first_good before (declarations.Task own body) ds g in
+    let regrouped : before ++ (declarations.Task own body ∷ ds) ≡ (before ++ (declarations.Task own body ∷ [])) ++ ds = sym (append_assoc before (declarations.Task own body ∷ []) ds) in
+    let lines : (declaration_lines (declarations.Task own body) ++ flat_map declaration_lines ds) ++ more ≡ declaration_lines (declarations.Task own body) ++ (flat_map declaration_lines ds ++ more) = append_assoc (declaration_lines (declarations.Task own body)) (flat_map declaration_lines ds) more in
+    subst (λ (ls : List ScriptLine). Runs P (between key ticks n before task) ls) (sym lines)
+    (task_runs P key ticks n before task own body ds (flat_map declaration_lines ds ++ more) f
+    (λ t. declarations_run P ds key ticks n (before ++ (declarations.Task own body ∷ [])) t more f.others (λ u. subst (λ (x : List Decl). Runs P (between key ticks n x u) more) regrouped (h u))))
+
+-- ---- a script
+
+-- the draft is whole, and makes the script
+pub record Makes (s : Script) (e : Draft) : Type 0 where
+  pub whole : e.stage ≡ Whole
+  pub made : script_of e ≡ s
+
+-- a list of two, read by places
+two_nodes : (nodes : List NodeDecl) → length nodes ≡ 2 → slice_index_or nodes 0 no_node ∷ slice_index_or nodes 1 no_node ∷ [] ≡ nodes
+two_nodes [] e = absurd (omega arith)
+two_nodes (a ∷ []) e = absurd (omega arith)
+two_nodes (a ∷ b ∷ []) e = refl
+two_nodes (a ∷ b ∷ c ∷ nodes) e = absurd (omega arith)
+
+-- a node without declarations
+node_again : (n : NodeDecl) → n.decls ≡ [] → record n { decls = [] } ≡ n
+node_again n e = ap (λ (ds : List Decl). record n { decls = ds }) (sym e)
+
+-- the ranges of a script's lines
+record Ranges (s : Script) : Type 0 where
+  pub key : is_in_range (Link (Some (key_of s))) ≡ true
+  pub ticks : is_in_range (Ticks (Some s.ticks)) ≡ true
+  pub first : is_in_range (FirstNode (node_line (first_node s))) ≡ true
+  pub declared : list_all is_in_range (flat_map declaration_lines (first_node s).decls) ≡ true
+  pub second : is_in_range (SecondNode (node_line (second_node s))) ≡ true
+
+-- the ranges, line by line
+ranges_of : (s : Script) → list_all is_in_range (lines_of s) ≡ true → Ranges s
+ranges_of s all =
+    let last = SecondNode (node_line (second_node s)) ∷ [] in
+    let tail = flat_map declaration_lines (first_node s).decls ++ last in
+    let a = and_parts (is_in_range (Link (Some (key_of s)))) _ all in
+    let b = and_parts (is_in_range (Ticks (Some s.ticks))) _ a.1 in
+    let c = and_parts (is_in_range (FirstNode (node_line (first_node s)))) (list_all is_in_range tail) b.1 in
+    let d = and_parts (list_all is_in_range (flat_map declaration_lines (first_node s).decls)) (list_all is_in_range last) (sym (list_all-append is_in_range (flat_map declaration_lines (first_node s).decls) last) ∙ c.1) in
+    let e = and_parts (is_in_range (SecondNode (node_line (second_node s)))) true d.1 in
+    record { key = a.0; ticks = b.0; first = c.0; declared = d.0; second = e.0 }
+
+-- the lines of a good script are taken, and make the script
+pub script_runs : (s : Script) → IsGood s → Runs (Makes s) start (lines_of s)
+script_runs s g =
+    let r = ranges_of s g.ranges in
+    let n = first_node s in
+    let m = second_node s in
+    let made : (t : TaskDecl) → script_of (record { stage = Whole; key = key_of s; ticks = s.ticks; first = n; second = record m { decls = [] }; task = t; body = [] }) ≡ s = λ t. rw (node_again m g.bare_second, two_nodes s.nodes g.two_nodes, ← g.sure_link) refl in
+    let other : eqb m.addr n.addr ≡ false = ne_eqb m.addr n.addr g.addresses in
+    let last : (t : TaskDecl) → Runs (Makes s) (between (key_of s) s.ticks n n.decls t) (SecondNode (node_line m) ∷ []) = λ t.
+    (record { place = refl; range = r.second; room = rw other refl; fresh = refl }, refl, record { whole = refl; made = made t }) in (
+      record { place = refl; range = refl; room = refl; fresh = refl },
+      refl,
+      (
+        record { place = refl; range = r.key; room = refl; fresh = refl },
+        refl,
+        (
+          record { place = refl; range = r.ticks; room = refl; fresh = refl },
+          refl,
+          (
+            record { place = refl; range = r.first; room = refl; fresh = refl },
+            refl,
+            declarations_run (Makes s) n.decls (key_of s) s.ticks n [] no_task (SecondNode (node_line m) ∷ []) (record { ranges = r.declared; written = g.written; distinct = g.distinct }) last,
+          ),
+        ),
+      ),
+    )

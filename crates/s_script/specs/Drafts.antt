@@ -1,0 +1,105 @@
+-- How lines become a script: where each may stand, what is wrong with one, and what it adds to the draft.
+use Rattle.std.specs.Prelude.{Bool, true, false, not, ◌&&◌, List, [], ◌∷◌, ◌++◌, length, Option, Some, None, unwrap_or, map, nat_lt, ◌==◌, if◌then◌else◌}
+use Rattle.std.specs.List.{flat_map, list_any}
+use Rattle.it_types.specs.declared.conf.TaskDecl.{TaskDecl}
+use Rattle.spec_script.specs.declared.script.Script.{Script}
+use Rattle.spec_script.specs.declared.script.NodeDecl.{NodeDecl}
+use Rattle.spec_script.specs.declared.decl.Decl.{Decl}
+use Rattle.spec_script.specs.declared.decl.Decl.TheVariants as declarations
+use Rattle.spec_script.specs.declared.decl.Line.TheVariants as body_lines
+use Rattle.spec_script.specs.declared.script_line.ScriptLine.{ScriptLine}
+use Rattle.spec_script.specs.declared.script_line.ScriptLine.TheVariants.{Itron, Link, Ticks, FirstNode, SecondNode, Sem, Task, Call, End}
+use Rattle.spec_script.specs.declared.script_line.NodeLine.{NodeLine}
+use Rattle.spec_script.specs.Lines.{no_node, node_line, body_line, declaration_lines}
+use Rattle.spec_script.specs.Ranges.{is_in_range, body_limit, is_task, is_semaphore}
+use Rattle.s_script.specs.declared.read_bad.Why.{Why}
+use Rattle.s_script.specs.declared.read_bad.Why.TheVariants.{Form, Range, Twice}
+use Rattle.s_script.specs.declared.draft.Stage.{Stage}
+use Rattle.s_script.specs.declared.draft.Stage.TheVariants.{Start, Headed, Linked, Timed, Declares, InTask, Whole}
+use Rattle.s_script.specs.declared.draft.Draft.{Draft}
+
+-- ---- a draft and its lines
+
+-- the task of a draft that has none open
+abbrev pub no_task : TaskDecl
+no_task = record { id = 0; pri = 0; act = true }
+
+-- before the first line
+abbrev pub start : Draft
+start = record { stage = Start; key = 0; ticks = 0; first = no_node; second = no_node; task = no_task; body = [] }
+
+-- the script of a whole draft
+abbrev pub script_of : Draft → Script
+script_of d = record { link = d.key ∷ 0 ∷ 0 ∷ 0 ∷ []; ticks = d.ticks; nodes = d.first ∷ d.second ∷ [] }
+
+-- the lines up to the declarations
+abbrev pub head_of : Draft → List ScriptLine
+head_of d = Itron ∷ Link (Some d.key) ∷ Ticks (Some d.ticks) ∷ FirstNode (node_line d.first) ∷ []
+
+-- the lines so far, by the stage
+abbrev pub lines_at : Stage → Draft → List ScriptLine
+lines_at Start d = []
+lines_at Headed d = Itron ∷ []
+lines_at Linked d = Itron ∷ Link (Some d.key) ∷ []
+lines_at Timed d = Itron ∷ Link (Some d.key) ∷ Ticks (Some d.ticks) ∷ []
+lines_at Declares d = head_of d ++ flat_map declaration_lines d.first.decls
+lines_at InTask d = head_of d ++ (flat_map declaration_lines d.first.decls ++ (Task (Some d.task.id) (Some d.task.pri) ∷ map body_line d.body))
+lines_at Whole d = head_of d ++ (flat_map declaration_lines d.first.decls ++ (SecondNode (node_line d.second) ∷ []))
+
+-- ---- what is wrong with a line
+
+-- which line may come at which stage
+abbrev pub in_place : Stage → ScriptLine → Bool
+in_place Start Itron = true
+in_place Headed (Link key) = true
+in_place Linked (Ticks ticks) = true
+in_place Timed (FirstNode n) = true
+in_place Declares (Sem id init max) = true
+in_place Declares (Task id pri) = true
+in_place Declares (SecondNode n) = true
+in_place InTask (Call request fits) = true
+in_place InTask End = true
+in_place _ _ = false
+
+-- the bounds that go beyond the line itself: node 1 has an address of its own, and a body is not too long
+abbrev pub has_room : Draft → ScriptLine → Bool
+has_room d (SecondNode n) = not (unwrap_or n.addr 0 == d.first.addr)
+has_room d (Call request fits) = nat_lt (length d.body) body_limit
+has_room d _ = true
+
+-- the id of this kind was declared before
+abbrev pub is_declared : Draft → ScriptLine → Bool
+is_declared d (Sem id init max) = list_any (is_semaphore (unwrap_or id 0)) d.first.decls
+is_declared d (Task id pri) = list_any (is_task (unwrap_or id 0)) d.first.decls
+is_declared d _ = false
+
+-- the cause of the first test that is true
+abbrev pub first_cause : List (Bool × Why) → Option Why
+first_cause [] = None
+first_cause (test ∷ tests) = if test.0 then Some test.1 else first_cause tests
+
+-- what is wrong with the line, if anything
+abbrev pub cause : Draft → ScriptLine → Option Why
+cause d l = first_cause ((not (in_place d.stage l), Form) ∷ (not (is_in_range l && has_room d l), Range) ∷ (is_declared d l, Twice) ∷ [])
+
+-- ---- what a line adds
+
+-- a node as its line begins it
+abbrev pub node_of : NodeLine → NodeDecl
+node_of n = record { addr = unwrap_or n.addr 0; isn0 = unwrap_or n.isn0 0; top0 = unwrap_or n.top0 0; decls = [] }
+
+-- one more declaration of a node
+abbrev pub declared : NodeDecl → Decl → NodeDecl
+declared n declaration = record n { decls = n.decls ++ declaration ∷ [] }
+
+-- the draft after the line
+abbrev pub moved : Draft → ScriptLine → Draft
+moved d Itron = record d { stage = Headed }
+moved d (Link key) = record d { stage = Linked; key = unwrap_or key 0 }
+moved d (Ticks ticks) = record d { stage = Timed; ticks = unwrap_or ticks 0 }
+moved d (FirstNode n) = record d { stage = Declares; first = node_of n }
+moved d (SecondNode n) = record d { stage = Whole; second = node_of n }
+moved d (Sem id init max) = record d { stage = Declares; first = declared d.first (declarations.Sem (record { id = unwrap_or id 0; pri = false; init = unwrap_or init 0; max = unwrap_or max 0 })) }
+moved d (Task id pri) = record d { stage = InTask; task = record { id = unwrap_or id 0; pri = unwrap_or pri 0; act = true }; body = [] }
+moved d (Call request fits) = record d { stage = InTask; body = d.body ++ body_lines.Call request ∷ [] }
+moved d End = record d { stage = Declares; first = declared d.first (declarations.Task d.task (record { lines = d.body })); body = [] }

@@ -1,0 +1,7 @@
+pub mod Cursor
+pub mod Numbers
+pub mod LineKinds
+pub mod Cutting
+pub mod Drafts
+pub mod Reading
+pub mod FirstWrong

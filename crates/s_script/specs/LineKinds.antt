@@ -1,0 +1,151 @@
+-- Which line bytes are read as: one definition for each kind of line, over the bytes after its first word.
+use Rattle.std.specs.Prelude.{ℕ, Bool, not, List, [], ◌∷◌, ◌++◌, Option, Some, None, is_some, unwrap_or, ◌==◌, if◌then◌else◌, codes, nat_eq}
+use Rattle.std.specs.Cmp.Lexicographic.{pointwise}
+use Rattle.it_types.specs.declared.request.Req.TheVariants as requests
+use Rattle.it_types.specs.declared.timeout.Tmo.{Tmo}
+use Rattle.it_types.specs.declared.timeout.Tmo.TheVariants as timeouts
+use Rattle.it_types.specs.declared.id.ObjId.{ObjId}
+use Rattle.spec_script.specs.declared.script_line.ScriptLine.{ScriptLine}
+use Rattle.spec_script.specs.declared.script_line.ScriptLine.TheVariants.{Itron, Link, Ticks, FirstNode, SecondNode, Sem, Task, Call, End}
+use Rattle.spec_script.specs.declared.script_line.NodeLine.{NodeLine}
+use Rattle.s_script.specs.Cursor.{◌>>=◌, or_else, after, at_end, split_while}
+use Rattle.s_script.specs.Numbers.{below, number_at, address_at}
+
+-- ---- the calls of a body
+
+-- the time-out of a word
+unfoldable pub timeout_word : List ℕ → Tmo → List ℕ → Option (Tmo × List ℕ)
+timeout_word word timeout bytes = do
+  rest ← after word bytes
+  Some (timeout, rest)
+
+-- the time-outs that a script can write: pol and fevr
+unfoldable pub timeout_at : List ℕ → Option (Tmo × List ℕ)
+timeout_at bytes = or_else (timeout_word (codes "pol") timeouts.Pol bytes) (timeout_word (codes "fevr") timeouts.Fevr bytes)
+
+-- an object's id; one that hasn't 32 bits stands as 0
+abbrev pub object_of : Option ℕ → ObjId
+object_of id = record { 0 = unwrap_or (below 4294967296 id) 0 }
+
+-- an object's id has 32 bits
+abbrev pub is_object : Option ℕ → Bool
+is_object id = is_some (below 4294967296 id)
+
+-- sig_sem ID
+unfoldable pub sig_sem_line : List ℕ → Option ScriptLine
+sig_sem_line bytes = do
+  rest ← after (codes " ") bytes
+  sem ← number_at rest
+  at_end sem.1 (Call (requests.SigSem (object_of sem.0)) (is_object sem.0))
+
+-- twai_sem ID TMO
+unfoldable pub twai_sem_line : List ℕ → Option ScriptLine
+twai_sem_line bytes = do
+  rest ← after (codes " ") bytes
+  sem ← number_at rest
+  rest ← after (codes " ") sem.1
+  timeout ← timeout_at rest
+  at_end timeout.1 (Call (requests.TwaiSem (object_of sem.0) timeout.0) (is_object sem.0))
+
+-- ---- the other lines
+
+-- itron 1
+unfoldable pub itron_line : List ℕ → Option ScriptLine
+itron_line bytes = do
+  rest ← after (codes " 1") bytes
+  at_end rest Itron
+
+-- link KEY 0 0 0
+unfoldable pub link_line : List ℕ → Option ScriptLine
+link_line bytes = do
+  rest ← after (codes " ") bytes
+  key ← number_at rest
+  rest ← after (codes " 0 0 0") key.1
+  at_end rest (Link key.0)
+
+-- ticks T
+unfoldable pub ticks_line : List ℕ → Option ScriptLine
+ticks_line bytes = do
+  rest ← after (codes " ") bytes
+  ticks ← number_at rest
+  at_end ticks.1 (Ticks ticks.0)
+
+-- ADDR ISN TOP
+unfoldable pub node_at : List ℕ → Option (NodeLine × List ℕ)
+node_at bytes = do
+  addr ← address_at bytes
+  rest ← after (codes " ") addr.1
+  isn0 ← number_at rest
+  rest ← after (codes " ") isn0.1
+  top0 ← number_at rest
+  Some (record { addr = addr.0; isn0 = isn0.0; top0 = top0.0 }, top0.1)
+
+-- node 0 ADDR ISN TOP
+unfoldable pub first_node_line : List ℕ → Option ScriptLine
+first_node_line bytes = do
+  rest ← after (codes " 0 ") bytes
+  node ← node_at rest
+  at_end node.1 (FirstNode node.0)
+
+-- node 1 ADDR ISN TOP
+unfoldable pub second_node_line : List ℕ → Option ScriptLine
+second_node_line bytes = do
+  rest ← after (codes " 1 ") bytes
+  node ← node_at rest
+  at_end node.1 (SecondNode node.0)
+
+-- the line of either node
+unfoldable pub either_node_line : List ℕ → Option ScriptLine
+either_node_line bytes = or_else (first_node_line bytes) (second_node_line bytes)
+
+-- sem ID fifo INIT MAX
+unfoldable pub sem_line : List ℕ → Option ScriptLine
+sem_line bytes = do
+  rest ← after (codes " ") bytes
+  id ← number_at rest
+  rest ← after (codes " fifo ") id.1
+  init ← number_at rest
+  rest ← after (codes " ") init.1
+  max ← number_at rest
+  at_end max.1 (Sem id.0 init.0 max.0)
+
+-- task ID PRI act
+unfoldable pub task_line : List ℕ → Option ScriptLine
+task_line bytes = do
+  rest ← after (codes " ") bytes
+  id ← number_at rest
+  rest ← after (codes " ") id.1
+  pri ← number_at rest
+  rest ← after (codes " act") pri.1
+  at_end rest (Task id.0 pri.0)
+
+-- end
+abbrev pub end_line : List ℕ → Option ScriptLine
+end_line bytes = at_end bytes End
+
+-- ---- by the first word
+
+-- a word goes up to the first space
+abbrev pub is_no_space : ℕ → Bool
+is_no_space byte = not (byte == 32)
+
+-- words, each with what reads the bytes after it
+abbrev pub Kinds : Type 0
+Kinds = List (List ℕ × (List ℕ → Option ScriptLine))
+
+abbrev pub call_kinds : Kinds
+call_kinds = (codes "sig_sem", sig_sem_line) ∷ (codes "twai_sem", twai_sem_line) ∷ []
+
+abbrev pub other_kinds : Kinds
+other_kinds =
+    (codes "itron", itron_line) ∷ (codes "link", link_line) ∷ (codes "ticks", ticks_line) ∷ (codes "node", either_node_line)
+    ∷ (codes "sem", sem_line) ∷ (codes "task", task_line) ∷ (codes "end", end_line) ∷ []
+
+-- the first kind with this word reads the bytes after it
+abbrev pub by_word : Kinds → List ℕ → List ℕ → Option ScriptLine
+by_word [] word bytes = None
+by_word (kind ∷ kinds) word bytes = if pointwise nat_eq word kind.0 then kind.1 bytes else by_word kinds word bytes
+
+-- the line that bytes without LF are read as, if they are one
+unfoldable pub line_of : List ℕ → Option ScriptLine
+line_of bytes = let parts = split_while is_no_space bytes in by_word (other_kinds ++ call_kinds) parts.0 parts.1

@@ -1,0 +1,70 @@
+ghost use Rattle.std.specs.Prelude.{◌≡◌};
+ghost use Rattle.s_script.specs.Cursor.{Gives};
+ghost use Rattle.s_script.specs.LineKinds.{timeout_word, timeout_at, sig_sem_line, twai_sem_line, call_kinds, by_word};
+
+use crate::cursor::{after, at_end, is_word};
+use crate::numbers::{number_at, u32_of};
+use it_types::{ObjId, Req, Tmo};
+use spec_script::ScriptLine;
+
+#[tactic(auto, unfolding(crate::specs::Cursor::and_then, crate::specs::LineKinds::timeout_word))]
+fn timeout_word<'a>(word: &[u8], timeout: Tmo, bytes: &'a [u8]) -> Option<(Tmo, &'a [u8])>
+    ensures { Gives (λ x. (x.0, x.1.now)) result (timeout_word word.now timeout bytes.now) }
+{
+    let rest = after(word, bytes)?;
+    Some((timeout, rest))
+}
+
+#[tactic(auto, unfolding(crate::specs::LineKinds::timeout_at))]
+fn timeout_at(bytes: &[u8]) -> Option<(Tmo, &[u8])>
+    ensures { Gives (λ x. (x.0, x.1.now)) result (timeout_at bytes.now) }
+{
+    match timeout_word(b"pol", Tmo::Pol, bytes) {
+        Some(timeout) => Some(timeout),
+        None => timeout_word(b"fevr", Tmo::Fevr, bytes),
+    }
+}
+
+#[tactic(auto, unfolding(crate::specs::Cursor::and_then, crate::specs::LineKinds::sig_sem_line))]
+fn sig_sem_line(bytes: &[u8]) -> Option<ScriptLine>
+    ensures { result ≡ sig_sem_line bytes.now }
+{
+    let rest = after(b" ", bytes)?;
+    let (sem, rest) = number_at(rest)?;
+    let sem = u32_of(sem);
+    let req = Req::SigSem {
+        sem: ObjId(sem.unwrap_or(0)),
+    };
+    let fits = sem.is_some();
+    at_end(rest, ScriptLine::Call { req, fits })
+}
+
+#[tactic(auto, unfolding(crate::specs::Cursor::and_then, crate::specs::LineKinds::twai_sem_line))]
+fn twai_sem_line(bytes: &[u8]) -> Option<ScriptLine>
+    ensures { result ≡ twai_sem_line bytes.now }
+{
+    let rest = after(b" ", bytes)?;
+    let (sem, rest) = number_at(rest)?;
+    let rest = after(b" ", rest)?;
+    let (tmo, rest) = timeout_at(rest)?;
+    let sem = u32_of(sem);
+    let req = Req::TwaiSem {
+        sem: ObjId(sem.unwrap_or(0)),
+        tmo,
+    };
+    let fits = sem.is_some();
+    at_end(rest, ScriptLine::Call { req, fits })
+}
+
+/// The call that begins with the word and goes on with the bytes.
+pub fn call_line(word: &[u8], bytes: &[u8]) -> Option<ScriptLine>
+    ensures { result ≡ by_word call_kinds word.now bytes.now }
+{
+    if is_word(word, b"sig_sem") {
+        sig_sem_line(bytes)
+    } else if is_word(word, b"twai_sem") {
+        twai_sem_line(bytes)
+    } else {
+        None
+    }
+}

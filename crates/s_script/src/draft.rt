@@ -1,0 +1,271 @@
+ghost use Rattle.std.specs.Prelude.{◌≡◌, true, ◌<◌, ◌^◌, OnOk, unwrap_or};
+ghost use Rattle.std.specs.Option.{ForSome};
+ghost use Rattle.std.specs.List.{list_any};
+ghost use Rattle.spec_script.specs.Lines.{no_node};
+ghost use Rattle.spec_script.specs.Ranges.{is_node_in_range, is_in_range, is_task, is_semaphore};
+ghost use Rattle.s_script.specs.Drafts.{start, script_of, in_place, has_room, is_declared, cause, node_of, moved};
+
+use crate::Why;
+use crate::ranges::is_in_range;
+use it_types::{List, NoMemory, SemDecl, TaskDecl};
+use spec_script::{Body, Decl, Line, NodeDecl, NodeLine, Script, ScriptLine};
+use std::alloc::Global;
+use std::mem;
+
+/// The greatest number of lines of a body.
+const BODY_LIMIT: usize = 1000;
+
+/// How far a script has come: what the next line may be.
+#[derive(Clone, Copy, Debug, PartialEq, Eq)]
+pub enum Stage {
+    /// No line has come.
+    Start,
+    /// `itron` has come.
+    Headed,
+    /// `link` has come.
+    Linked,
+    /// `ticks` has come.
+    Timed,
+    /// Node 0 has begun.
+    Declares,
+    /// A task's body is open.
+    InTask,
+    /// Node 1 has come, and with it the last line.
+    Whole,
+}
+
+/// The script so far; a field that the stage does not use has no meaning.
+#[derive(Debug, Drop)]
+pub struct Draft {
+    pub stage: Stage,
+    pub key: u64,
+    pub ticks: u32,
+    pub first: NodeDecl,
+    pub second: NodeDecl,
+    /// The task whose body is open, and that body.
+    pub task: TaskDecl,
+    pub body: List<Line>,
+}
+
+fn no_node(alloc: Global) -> NodeDecl
+    ensures { result ≡ no_node }
+{
+    NodeDecl {
+        addr: 0,
+        isn0: 0,
+        top0: 0,
+        decls: List::new(alloc),
+    }
+}
+
+fn to_u32(number: Option<u64>) -> u32
+    requires { ForSome number (λ n. n < 2 ^ 32) }
+    ensures { result ≡ unwrap_or number 0 }
+{
+    match number {
+        Some(number) => number as u32,
+        None => 0,
+    }
+}
+
+fn node_of(alloc: Global, line: NodeLine) -> NodeDecl
+    requires { is_node_in_range line ≡ true }
+    ensures { result ≡ node_of line }
+{
+    NodeDecl {
+        addr: line.addr.unwrap_or(0),
+        isn0: to_u32(line.isn0),
+        top0: line.top0.unwrap_or(0),
+        decls: List::new(alloc),
+    }
+}
+
+/// Whether the line may come at the stage.
+fn in_place(stage: Stage, line: &ScriptLine) -> bool
+    ensures { result ≡ in_place stage line.now }
+{
+    match (stage, line) {
+        (Stage::Start, ScriptLine::Itron) => true,
+        (Stage::Headed, ScriptLine::Link { .. }) => true,
+        (Stage::Linked, ScriptLine::Ticks { .. }) => true,
+        (Stage::Timed, ScriptLine::FirstNode(_)) => true,
+        (Stage::Declares, ScriptLine::Sem { .. }) => true,
+        (Stage::Declares, ScriptLine::Task { .. }) => true,
+        (Stage::Declares, ScriptLine::SecondNode(_)) => true,
+        (Stage::InTask, ScriptLine::Call { .. }) => true,
+        (Stage::InTask, ScriptLine::End) => true,
+        _ => false,
+    }
+}
+
+fn is_task(decl: &Decl, id: u64) -> bool
+    ensures { result ≡ is_task id decl.now }
+{
+    match decl {
+        Decl::Task(task, _) => u64::from(task.id) == id,
+        Decl::Sem(_) => false,
+    }
+}
+
+fn is_semaphore(decl: &Decl, id: u64) -> bool
+    ensures { result ≡ is_semaphore id decl.now }
+{
+    match decl {
+        Decl::Task(..) => false,
+        Decl::Sem(sem) => u64::from(sem.id) == id,
+    }
+}
+
+fn declares_task(decls: &[Decl], id: u64) -> bool
+    ensures { result ≡ list_any (is_task id) decls.now }
+{
+    decls.iter().any(|decl| is_task(decl, id))
+}
+
+fn declares_semaphore(decls: &[Decl], id: u64) -> bool
+    ensures { result ≡ list_any (is_semaphore id) decls.now }
+{
+    decls.iter().any(|decl| is_semaphore(decl, id))
+}
+
+impl Draft {
+    /// Before the first line.
+    pub fn new(alloc: Global) -> Self
+        ensures { result ≡ start }
+    {
+        Draft {
+            stage: Stage::Start,
+            key: 0,
+            ticks: 0,
+            first: no_node(alloc),
+            second: no_node(alloc),
+            task: TaskDecl {
+                id: 0,
+                pri: 0,
+                act: true,
+            },
+            body: List::new(alloc),
+        }
+    }
+
+    /// The script of a whole draft.
+    pub fn into_script(self) -> Script
+        ensures { result ≡ script_of self }
+    {
+        let Draft {
+            stage: _,
+            key,
+            ticks,
+            first,
+            second,
+            task: _,
+            body: _,
+        } = self;
+        Script {
+            link: [key, 0, 0, 0],
+            ticks,
+            nodes: [first, second],
+        }
+    }
+
+    fn has_room(&self, line: &ScriptLine) -> bool
+        ensures { result ≡ has_room self.now line.now }
+    {
+        match line {
+            ScriptLine::SecondNode(node) => node.addr.unwrap_or(0) != self.first.addr,
+            ScriptLine::Call { .. } => self.body.len() < BODY_LIMIT,
+            _ => true,
+        }
+    }
+
+    fn is_declared(&self, line: &ScriptLine) -> bool
+        ensures { result ≡ is_declared self.now line.now }
+    {
+        match line {
+            ScriptLine::Task { id, .. } => {
+                declares_task(self.first.decls.as_slice(), id.unwrap_or(0))
+            }
+            ScriptLine::Sem { id, .. } => {
+                declares_semaphore(self.first.decls.as_slice(), id.unwrap_or(0))
+            }
+            _ => false,
+        }
+    }
+
+    /// What is wrong with the line, if anything.
+    pub fn cause(&self, line: &ScriptLine) -> Option<Why>
+        ensures { result ≡ cause self.now line.now }
+    {
+        if !in_place(self.stage, line) {
+            Some(Why::Form)
+        } else if !(is_in_range(line) && self.has_room(line)) {
+            Some(Why::Range)
+        } else if self.is_declared(line) {
+            Some(Why::Twice)
+        } else {
+            None
+        }
+    }
+
+    fn close_task(&mut self, alloc: Global) -> Result<(), NoMemory>
+        ensures { OnOk result (self.new ≡ moved self.old ScriptLine.End) }
+    {
+        let lines = mem::replace(&mut self.body, List::new(alloc));
+        self.first
+            .decls
+            .push(Decl::Task(self.task, Body { lines }))?;
+        self.stage = Stage::Declares;
+        Ok(())
+    }
+
+    /// Adds the line, which has no cause to be refused. Without memory the draft has no meaning.
+    pub fn add(&mut self, alloc: Global, line: ScriptLine) -> Result<(), NoMemory>
+        requires { is_in_range line ≡ true }
+        ensures { OnOk result (self.new ≡ moved self.old line) }
+    {
+        match line {
+            ScriptLine::Itron => self.stage = Stage::Headed,
+            ScriptLine::Link { key } => {
+                self.stage = Stage::Linked;
+                self.key = key.unwrap_or(0);
+            }
+            ScriptLine::Ticks { ticks } => {
+                self.stage = Stage::Timed;
+                self.ticks = to_u32(ticks);
+            }
+            ScriptLine::FirstNode(node) => {
+                self.stage = Stage::Declares;
+                self.first = node_of(alloc, node);
+            }
+            ScriptLine::SecondNode(node) => {
+                self.stage = Stage::Whole;
+                self.second = node_of(alloc, node);
+            }
+            ScriptLine::Sem { id, init, max } => {
+                let sem = SemDecl {
+                    id: to_u32(id),
+                    pri: false,
+                    init: to_u32(init),
+                    max: to_u32(max),
+                };
+                self.stage = Stage::Declares;
+                self.first.decls.push(Decl::Sem(sem))?;
+            }
+            ScriptLine::Task { id, pri } => {
+                self.stage = Stage::InTask;
+                self.task = TaskDecl {
+                    id: to_u32(id),
+                    pri: to_u32(pri),
+                    act: true,
+                };
+                self.body = List::new(alloc);
+            }
+            ScriptLine::Call { req, fits: _ } => {
+                self.stage = Stage::InTask;
+                self.body.push(Line::Call { req })?;
+            }
+            ScriptLine::End => self.close_task(alloc)?,
+        }
+        Ok(())
+    }
+}

@@ -1,0 +1,20 @@
+//! Scripts as text: a script is read with the first wrong line and its cause, and printed in the one form that is read back.
+#![tactic(auto)]
+
+mod calls;
+mod cursor;
+mod draft;
+mod line;
+mod lines;
+mod numbers;
+mod print;
+mod ranges;
+mod read_bad;
+mod reader;
+
+pub use print::print_into;
+pub use read_bad::{ReadBad, Why};
+pub use reader::{first_wrong, read, reading};
+
+#[cfg(test)]
+mod tests;

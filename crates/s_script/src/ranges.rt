@@ -1,0 +1,66 @@
+ghost use Rattle.std.specs.Prelude.{◌≡◌};
+ghost use Rattle.spec_script.specs.Ranges.{within, is_at_most, is_node_in_range, is_in_range};
+
+use spec_script::{NodeLine, ScriptLine};
+
+/// The greatest id of a task or a semaphore, and the least urgent priority of a task.
+const MAX_ID: u64 = 16;
+
+const MAX_PRIORITY: u64 = 16;
+
+/// The greatest maximum of a semaphore.
+const MAX_COUNT: u64 = 65535;
+
+/// The greatest number of ticks of a script.
+const MAX_TICKS: u64 = 400000;
+
+/// The greatest position at which a line of sequence positions begins.
+const MAX_TOP: u64 = 2000000000;
+
+/// The greatest number of 32 bits.
+const MAX_U32: u64 = 4294967295;
+
+fn is_within(low: u64, number: Option<u64>, high: u64) -> bool
+    ensures { result ≡ within low number high }
+{
+    match number {
+        Some(number) => low <= number && number <= high,
+        None => false,
+    }
+}
+
+fn is_at_most(number: Option<u64>, other: Option<u64>) -> bool
+    ensures { result ≡ is_at_most number other }
+{
+    match (number, other) {
+        (Some(number), Some(other)) => number <= other,
+        _ => false,
+    }
+}
+
+fn is_node_in_range(node: NodeLine) -> bool
+    ensures { result ≡ is_node_in_range node }
+{
+    let addr = node.addr.map(u64::from);
+    is_within(1, addr, MAX_U32)
+        && is_within(0, node.isn0, MAX_U32)
+        && is_within(0, node.top0, MAX_TOP)
+}
+
+/// Whether each number of the line is in its range.
+pub fn is_in_range(line: &ScriptLine) -> bool
+    ensures { result ≡ is_in_range line.now }
+{
+    match line {
+        ScriptLine::Link { key } => is_within(0, *key, u64::MAX),
+        ScriptLine::Ticks { ticks } => is_within(0, *ticks, MAX_TICKS),
+        ScriptLine::FirstNode(node) | ScriptLine::SecondNode(node) => is_node_in_range(*node),
+        ScriptLine::Sem { id, init, max } => {
+            is_within(1, *id, MAX_ID) && is_at_most(*init, *max) && is_within(1, *max, MAX_COUNT)
+        }
+        ScriptLine::Task { id, pri } => is_within(1, *id, MAX_ID)
+            && is_within(1, *pri, MAX_PRIORITY),
+        ScriptLine::Call { fits, .. } => *fits,
+        ScriptLine::Itron | ScriptLine::End => true,
+    }
+}
