@@ -1,0 +1,19 @@
+use Rattle.std.proofs.Common.{List, ℕ, sym, subst}
+use Rattle.spec_script.specs.Text.{IsReadAs}
+use Rattle.itron.proofs.Statuses.{script_is}
+use Rattle.itron.proofs.top.run.Goals as goal
+
+pub returns-in-Ok-clause-ok : goal.returns-in-Ok-clause-ok
+returns-in-Ok-clause-ok g c = λ ok.
+    let done = c.answer.ensures.ok ok in record {
+      input = record { bytes = c.in-Ok.input.items; script = done.0; whole = c.in-Ok.ensures.ok; read = subst (λ (t : List ℕ). IsReadAs t done.0) c.deref.ensures.value done.1 };
+      wrote = done.2;
+    }
+
+pub returns-in-Ok-clause-script : goal.returns-in-Ok-clause-script
+returns-in-Ok-clause-script g c = λ l w e.
+    let place = script_is c.answer.result l w c.answer.ensures.only e in (
+      place.0,
+      place.1,
+      record { bytes = c.in-Ok.input.items; whole = c.in-Ok.ensures.ok; wrong = λ s r. c.answer.ensures.script l w e s (subst (λ (t : List ℕ). IsReadAs t s) (sym c.deref.ensures.value) r) },
+    )

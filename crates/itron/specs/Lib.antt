@@ -1,0 +1,4 @@
+pub mod Turn
+pub mod Top
+pub mod Recorded
+pub mod Codes

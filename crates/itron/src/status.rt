@@ -1,0 +1,40 @@
+ghost use Rattle.std.specs.Prelude.{◌≡◌};
+ghost use Rattle.itron.specs.Codes.{exit_code_of};
+
+use s_script::Why;
+
+/// How a run of the program ended.
+#[derive(Clone, Copy, Debug, PartialEq, Eq)]
+pub enum Status {
+    /// The whole output was written.
+    Ok,
+    /// The command line is faulty.
+    Usage,
+    /// The input is no script: its first wrong line, 0 where no place is told, and why it is wrong.
+    Script(usize, Why),
+    /// The input could not be read.
+    ReadFault,
+    /// The output could not be written.
+    WriteFault,
+    /// Memory was refused.
+    NoMemory,
+    /// The input is longer than 1,048,576 bytes.
+    TooBig,
+}
+
+impl Status {
+    /// The exit code of the program.
+    pub fn exit_code(self) -> u8
+        ensures { result ≡ exit_code_of self }
+    {
+        match self {
+            Status::Ok => 0,
+            Status::Usage => 2,
+            Status::Script(_, _) => 3,
+            Status::ReadFault => 4,
+            Status::WriteFault => 5,
+            Status::NoMemory => 7,
+            Status::TooBig => 10,
+        }
+    }
+}

@@ -1,0 +1,98 @@
+use super::*;
+use it_io::{MemSink, MemSource};
+use std::alloc::Global;
+use std::test::*;
+
+const HANDOFF: &[u8] =
+    b"itron 1\nlink 1 0 0 0\nticks 10\nnode 0 10.0.0.1 0 0\nsem 1 fifo 0 1\ntask 1 1 act\ntwai_sem 1 fevr\nend\ntask 2 2 act\nsig_sem 1\nend\nnode 1 10.0.0.2 0 0\n";
+
+const HANDOFF_HISTORY: &[u8] =
+    b"trace\n0 task 1 twai_sem 1 fevr = pend 1\n run 2\n0 task 2 sig_sem 1 = 0\n end 1 0\n run 1\n0 return 1 = 0\n0 task 1 ext_tsk\n gone 1\n run 2\n0 task 2 ext_tsk\n gone 2\n run 0\nstop\n";
+
+const OVERFLOW: &[u8] =
+    b"itron 1\nlink 1 0 0 0\nticks 10\nnode 0 10.0.0.1 0 0\nsem 1 fifo 1 1\ntask 1 1 act\nsig_sem 1\nend\nnode 1 10.0.0.2 0 0\n";
+
+const OVERFLOW_HISTORY: &[u8] =
+    b"trace\n0 task 1 sig_sem 1 = -43\n0 task 1 ext_tsk\n gone 1\n run 0\nstop\n";
+
+/// Runs the words on the input, with a sink that takes `piece` bytes a call and fails at the call `fails`, 0 for none.
+/// Gives the status and what was written.
+fn run_words(
+    alloc: Global,
+    words: &[&str],
+    input: &[u8],
+    piece: usize,
+    fails: u64,
+) -> Result<(Status, MemSink), Fail> {
+    let mut strings = Vec::new(alloc);
+    for word in words {
+        strings.push(String::from_str(alloc, *word)?)?;
+    }
+    let mut src = MemSource::new(Vec::from_slice(alloc, input)?, 100, Vec::new(alloc));
+    let mut out = MemSink::new(alloc, 1000, piece, vec![in alloc; fails]?)
+        .ok()
+        .ok_or("no memory")?;
+    let status = top(alloc, &strings, &mut src, &mut out);
+    Ok((status, out))
+}
+
+fn whole(alloc: Global, script: &[u8], history: &[u8]) -> Result<Vec<u8>, Fail> {
+    let mut text = Vec::from_slice(alloc, script)?;
+    text.extend_from_slice(history)?;
+    Ok(text)
+}
+
+#[test]
+fn a_signal_hands_over(rt: HostRuntime) -> Result<(), Fail> {
+    let (status, out) = run_words(rt.alloc(), &["sim"], HANDOFF, 1000, 0)?;
+    let text = whole(rt.alloc(), HANDOFF, HANDOFF_HISTORY)?;
+    assert_eq!(rt; status, Status::Ok);
+    assert_eq!(rt; out.written(), text.as_slice());
+    Ok(())
+}
+
+#[test]
+fn a_full_semaphore_refuses(rt: HostRuntime) -> Result<(), Fail> {
+    let (status, out) = run_words(rt.alloc(), &["sim"], OVERFLOW, 7, 0)?;
+    let text = whole(rt.alloc(), OVERFLOW, OVERFLOW_HISTORY)?;
+    assert_eq!(rt; status, Status::Ok);
+    assert_eq!(rt; out.written(), text.as_slice());
+    Ok(())
+}
+
+#[test]
+fn no_text_is_no_script(rt: HostRuntime) -> Result<(), Fail> {
+    let (status, out) = run_words(rt.alloc(), &["sim"], b"", 1000, 0)?;
+    assert_eq!(rt; status, Status::Script(0, Why::Form));
+    assert_eq!(rt; out.written().len(), 0);
+    Ok(())
+}
+
+#[test]
+fn other_words_are_faulty(rt: HostRuntime) -> Result<(), Fail> {
+    let (status, _) = run_words(rt.alloc(), &["gen", "0"], HANDOFF, 1000, 0)?;
+    assert_eq!(rt; status, Status::Usage);
+    Ok(())
+}
+
+#[test]
+fn a_failing_sink_is_told(rt: HostRuntime) -> Result<(), Fail> {
+    let (status, out) = run_words(rt.alloc(), &["sim"], HANDOFF, 10, 2)?;
+    assert_eq!(rt; status, Status::WriteFault);
+    assert_eq!(rt; out.written(), b"itron 1\nli".as_slice());
+    Ok(())
+}
+
+#[test]
+fn a_failing_source_is_told(rt: HostRuntime) -> Result<(), Fail> {
+    let alloc = rt.alloc();
+    let words = vec![in alloc; String::from_str(alloc, "sim")?]?;
+    let fails = vec![in alloc; 1]?;
+    let mut src = MemSource::new(Vec::from_slice(alloc, HANDOFF)?, 100, fails);
+    let mut out = MemSink::new(alloc, 1000, 1000, Vec::new(alloc))
+        .ok()
+        .ok_or("no memory")?;
+    assert_eq!(rt; top(alloc, &words, &mut src, &mut out), Status::ReadFault);
+    assert_eq!(rt; out.written().len(), 0);
+    Ok(())
+}

@@ -1,0 +1,202 @@
+#!/usr/bin/env bash
+# Runs the built program on every example and on every kind of bad input, and compares what it writes to standard output
+# and to standard error, and its exit status, with what it must write.
+cd "$(dirname "$0")/.." || exit 1
+work=$(mktemp -d) || exit 1
+trap 'rm -rf "$work"' EXIT
+passed=0
+failed=0
+
+# expect NAME STATUS OUTPUT-FILE ERROR-TEXT: compares the last run, which wrote $work/out and $work/err.
+expect() {
+    local name=$1 want=$2 output=$3 errors=$4 got
+    got=$(cat "$work/status")
+    printf '%s' "$errors" >"$work/errors"
+    if [ "$got" != "$want" ]; then
+        echo "FAILED $name: status $got in place of $want"
+    elif ! cmp -s "$work/out" "$output"; then
+        echo "FAILED $name: another output:"
+        diff "$output" "$work/out" | head -5
+    elif ! cmp -s "$work/err" "$work/errors"; then
+        echo "FAILED $name: another text on standard error:"
+        head -c 300 "$work/err"
+    else
+        passed=$((passed + 1))
+        return
+    fi
+    failed=$((failed + 1))
+}
+
+# run WORDS..: runs the program on $work/in.
+run() {
+    ./itron "$@" <"$work/in" >"$work/out" 2>"$work/err"
+    echo $? >"$work/status"
+}
+
+# Each example has its text beside it.
+for script in examples/*.itron; do
+    cp "$script" "$work/in"
+    run sim
+    expect "$script" 0 "${script%.itron}.txt" ''
+    grep -v '^#' "$script" | grep . >"$work/printed"
+    head -n "$(wc -l <"$work/printed")" "${script%.itron}.txt" | cmp -s - "$work/printed" || {
+        echo "FAILED $script: its text does not begin with its printed form"
+        failed=$((failed + 1))
+    }
+done
+
+# Faulty command lines.
+: >"$work/empty"
+usage='usage: itron sim, audit, shape, run or gen N
+'
+cp examples/handoff.itron "$work/in"
+faulty() {
+    run "$@"
+    expect "the words: $*" 2 "$work/empty" "$usage"
+}
+faulty
+faulty simulate
+faulty SIM
+faulty ''
+faulty 'sim '
+faulty sim sim
+faulty sim 1
+faulty gen 0
+faulty -- sim
+faulty -h
+faulty $'\xff'
+faulty sim $'\xff'
+
+# Inputs that are no script. Each is a good script with one change, by sed, to one line.
+no_script() {
+    local name=$1
+    run sim
+    expect "no script: $name" 3 "$work/empty" 'line 0: form
+'
+}
+changed() {
+    sed "$2" examples/handoff.itron >"$work/in"
+    if cmp -s "$work/in" examples/handoff.itron; then
+        echo "FAILED $1: the change changes nothing"
+        failed=$((failed + 1))
+    fi
+    no_script "$1"
+}
+cp "$work/empty" "$work/in" && no_script 'nothing at all'
+printf 'itron 1' >"$work/in" && no_script 'one line without LF'
+printf '\000\377\n' >"$work/in" && no_script 'bytes'
+head -c -1 examples/handoff.itron >"$work/in" && no_script 'no last LF'
+{ cat examples/handoff.itron && printf '# no LF'; } >"$work/in" && no_script 'a comment without LF at the end'
+{ cat examples/handoff.itron && echo 'node 1 10.0.0.2 0 0'; } >"$work/in" && no_script 'a line after the end'
+changed 'another version' '1s/1/2/'
+changed 'a missing line' '2d'
+changed 'lines exchanged' '2{h;d};3G'
+changed 'a capital' '1s/i/I/'
+changed 'two spaces' '2s/ /  /'
+changed 'a space at the end' '3s/$/ /'
+changed 'a carriage return' '3s/$/\r/'
+changed 'a key of 2^64' '2s/1/18446744073709551616/'
+changed 'a key with a leading zero' '2s/1/01/'
+changed 'a key with a sign' '2s/1/+1/'
+changed 'a link that loses packets' '2s/1 0/1 1/'
+changed 'too many ticks' '3s/10/400001/'
+changed 'an address of three parts' '4s/10.0.0.1/10.0.1/'
+changed 'an address of five parts' '4s/10.0.0.1/10.0.0.0.1/'
+changed 'a part of an address above 255' '4s/10.0.0.1/10.0.0.256/'
+changed 'the address 0.0.0.0' '4s/10.0.0.1/0.0.0.0/'
+changed 'both nodes at one address' '12s/10.0.0.2/10.0.0.1/'
+changed 'a first number of 2^32' '4s/ 0 0$/ 4294967296 0/'
+changed 'a line of positions past its end' '4s/ 0 0$/ 0 2000000001/'
+changed 'the semaphore 0' '5s/1/0/'
+changed 'the semaphore 17' '5s/1/17/'
+changed 'a count above its maximum' '5s/0 1$/2 1/'
+changed 'a maximum of 0' '5s/0 1$/0 0/'
+changed 'a maximum of 65536' '5s/0 1$/0 65536/'
+changed 'a semaphore by priority' '5s/fifo/pri/'
+changed 'a semaphore declared twice' '5p'
+changed 'the task 0' '6s/task 1/task 0/'
+changed 'the task 17' '6s/task 1/task 17/'
+changed 'the priority 0' '6s/1 act/0 act/'
+changed 'the priority 17' '6s/1 act/17 act/'
+changed 'a dormant task' '6s/act/dor/'
+changed 'a task declared twice' '9s/task 2/task 1/'
+changed 'a number as time-out' '7s/fevr/5/'
+changed 'a non-blocking wait' '7s/fevr/nblk/'
+changed 'a semaphore id of 2^32 in a call' '7s/1/4294967296/'
+changed 'a call of another name' '7s/twai_sem 1 fevr/wai_sem 1/'
+changed 'an end that is written' '7s/.*/ext_tsk/'
+changed 'a body that does not end' '8d'
+changed 'a body that ends twice' '8p'
+changed 'a call outside a body' '5s/.*/sig_sem 1/'
+changed 'a declaration of node 1' '12s/$/\nsem 1 fifo 0 1/'
+changed 'a node 2' '12s/node 1/node 2/'
+
+# A body has at most 1,000 lines.
+body() {
+    sed -n 1,6p examples/handoff.itron
+    yes 'sig_sem 0' | head -n "$1"
+    sed -n '8p;12p' examples/handoff.itron
+}
+body 1001 >"$work/in" && no_script 'a body of 1,001 lines'
+body 1000 >"$work/in"
+run sim
+{ cat "$work/in" && echo trace && yes '0 task 1 sig_sem 0 = -18' | head -n 1000 && printf '0 task 1 ext_tsk\n gone 1\n run 0\nstop\n'; } >"$work/want"
+expect 'a body of 1,000 lines' 0 "$work/want" ''
+
+# Skipped lines hold any bytes, and an input may have 1,048,576 bytes.
+padded() {
+    printf '#' && head -c "$(($1 - 2 - $(wc -c <examples/handoff.itron)))" /dev/zero | tr '\000' '\377' && echo && cat examples/handoff.itron
+}
+padded 1048576 >"$work/in"
+run sim
+expect 'an input of 1,048,576 bytes' 0 examples/handoff.txt ''
+padded 1048577 >"$work/in"
+run sim
+expect 'an input of 1,048,577 bytes' 10 "$work/empty" 'input too big
+'
+
+# A pipe as input and as output.
+cat examples/handoff.itron | ./itron sim 2>"$work/err" | cat >"$work/out"
+echo "${PIPESTATUS[1]}" >"$work/status"
+expect 'pipes' 0 examples/handoff.txt ''
+
+# Faults of the streams.
+./itron sim <&- >"$work/out" 2>"$work/err"
+echo $? >"$work/status"
+expect 'a closed input' 4 "$work/empty" 'read fault
+'
+./itron sim <crates >"$work/out" 2>"$work/err"
+echo $? >"$work/status"
+expect 'a folder as input' 4 "$work/empty" 'read fault
+'
+: >"$work/out"
+./itron sim <examples/handoff.itron >&- 2>"$work/err"
+echo $? >"$work/status"
+expect 'a closed output' 5 "$work/empty" 'write fault
+'
+./itron sim <examples/handoff.itron >/dev/full 2>"$work/err"
+echo $? >"$work/status"
+expect 'a full output' 5 "$work/empty" 'write fault
+'
+./itron simulate <&- >"$work/out" 2>"$work/err"
+echo $? >"$work/status"
+expect 'faulty words before a closed input' 2 "$work/empty" "$usage"
+./itron sim <"$work/empty" 2>"$work/err" >&-
+echo $? >"$work/status"
+expect 'no script before a closed output' 3 "$work/empty" 'line 0: form
+'
+
+# A task that waits for good while both nodes have all the ticks that a script can give: 800,002 entries.
+sed 's/^ticks .*/ticks 400000/; s/^link .*/link 0 0 0 0/' examples/waits_for_good.itron >"$work/in"
+run sim
+{
+    grep -v '^#' "$work/in"
+    printf 'trace\n0 task 1 twai_sem 1 fevr = pend 1\n run 0\n'
+    yes '0 tick
+1 tick' | head -n 800000
+    echo stop
+} >"$work/want"
+expect 'all ticks' 0 "$work/want" ''
+
+echo "programs: $passed passed, $failed failed"
+[ "$failed" -eq 0 ]
