@@ -4,6 +4,7 @@ use crate::{ObjId, Tmo};
 #[derive(Clone, Copy, Debug, PartialEq, Eq)]
 pub enum KReq {
     ExtTsk,
+    DlyTsk { ms: u32 },
     SigSem { sem: ObjId },
     TwaiSem { sem: ObjId, tmo: Tmo },
 }

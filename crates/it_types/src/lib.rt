@@ -13,6 +13,7 @@ mod id;
 mod kernel_request;
 mod list;
 mod mark;
+mod network_request;
 mod no_memory;
 mod request;
 mod small;
@@ -26,7 +27,7 @@ pub use context::Ctx;
 pub use entry::{CallEnd, Entry};
 pub use er::{
     E_BOVR, E_CLS, E_CTX, E_DLT, E_ID, E_ILUSE, E_NOEXS, E_OBJ, E_OK, E_PAR, E_QOVR, E_RLWAI,
-    E_SYS, E_TMOUT, E_WBLK, Er,
+    E_SYS, E_TMOUT, E_WBLK, Er, code_numbers,
 };
 pub use event::Event;
 pub use handler::{FnCode, Handler};
@@ -34,6 +35,7 @@ pub use id::{CallNo, CepId, EndPt, NodeId, ObjId, PackNo, RepId, TaskId};
 pub use kernel_request::KReq;
 pub use list::List;
 pub use mark::{Dir, Mark};
+pub use network_request::NReq;
 pub use no_memory::NoMemory;
 pub use request::Req;
 pub use small::Small;

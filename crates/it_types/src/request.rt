@@ -8,6 +8,8 @@ use crate::{KReq, NoMemory, ObjId, Tmo};
 pub enum Req {
     /// Ends the calling task (µITRON4.0 section 4.1, `ext_tsk`).
     ExtTsk,
+    /// Delays the calling task by so many ticks (µITRON4.0 section 4.2, `dly_tsk`).
+    DlyTsk { ms: u32 },
     /// Gives a count back to a semaphore (µITRON4.0 section 4.4.1, `sig_sem`).
     SigSem { sem: ObjId },
     /// Takes a count from a semaphore (µITRON4.0 section 4.4.1, `wai_sem`, `pol_sem`, `twai_sem`).
@@ -21,6 +23,7 @@ impl Req {
     {
         match self {
             Req::ExtTsk => Ok(Req::ExtTsk),
+            Req::DlyTsk { ms } => Ok(Req::DlyTsk { ms: *ms }),
             Req::SigSem { sem } => Ok(Req::SigSem { sem: *sem }),
             Req::TwaiSem { sem, tmo } => Ok(Req::TwaiSem {
                 sem: *sem,
@@ -35,6 +38,7 @@ impl Req {
     {
         match self {
             Req::ExtTsk => KReq::ExtTsk,
+            Req::DlyTsk { ms } => KReq::DlyTsk { ms: *ms },
             Req::SigSem { sem } => KReq::SigSem { sem: *sem },
             Req::TwaiSem { sem, tmo } => KReq::TwaiSem {
                 sem: *sem,

@@ -24,17 +24,17 @@ fn put_timeout(out: &mut Vec<u8>, timeout: Tmo) -> Result<(), NoMemory>
     }
 }
 
-fn put_id(out: &mut Vec<u8>, word: &[u8], id: u32) -> Result<(), NoMemory>
-    ensures { OnOk result (out.new.items ≡ out.old.items ++ (word.now ++ decimal id)) }
+fn put_number_after(out: &mut Vec<u8>, word: &[u8], number: u32) -> Result<(), NoMemory>
+    ensures { OnOk result (out.new.items ≡ out.old.items ++ (word.now ++ decimal number)) }
 {
     out.extend_from_slice(word)?;
-    put_number(out, id)
+    put_number(out, number)
 }
 
 fn put_id_timeout(out: &mut Vec<u8>, word: &[u8], id: u32, timeout: Tmo) -> Result<(), NoMemory>
     ensures { OnOk result (out.new.items ≡ out.old.items ++ (word.now ++ (decimal id ++ (codes " " ++ timeout_text timeout)))) }
 {
-    put_id(out, word, id)?;
+    put_number_after(out, word, id)?;
     out.extend_from_slice(b" ")?;
     put_timeout(out, timeout)
 }
@@ -44,7 +44,8 @@ fn put_request(out: &mut Vec<u8>, request: &Req) -> Result<(), NoMemory>
 {
     match request {
         Req::ExtTsk => Ok(out.extend_from_slice(b"ext_tsk")?),
-        Req::SigSem { sem } => put_id(out, b"sig_sem ", sem.0),
+        Req::DlyTsk { ms } => put_number_after(out, b"dly_tsk ", *ms),
+        Req::SigSem { sem } => put_number_after(out, b"sig_sem ", sem.0),
         Req::TwaiSem { sem, tmo } => put_id_timeout(out, b"twai_sem ", sem.0, *tmo),
     }
 }

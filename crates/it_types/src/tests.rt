@@ -14,6 +14,9 @@ fn spells_with_ample_memory(rt: HostRuntime) -> Result<(), Fail> {
         b"0 task 1 twai_sem 4294967295 fevr".as_slice()
     );
     let bytes = Bytes::of(rt.alloc(), &out)?;
-    assert_eq!(rt; bytes.as_slice().len(), 33);
+    assert_eq!(rt;
+        bytes.as_slice(),
+        b"0 task 1 twai_sem 4294967295 fevr".as_slice()
+    );
     Ok(())
 }
