@@ -1,4 +1,4 @@
-ghost use Rattle.std.specs.Prelude.{◌≡◌, ℕ, ◌≤◌, ◌+◌, ◌-◌, length, OnOk, OnErr, IfOk, IsErrOf};
+ghost use Rattle.std.specs.Prelude.{◌≡◌, ◌≢◌, ℕ, ◌≤◌, ◌+◌, ◌-◌, length, Err, OnOk, OnErr, IfOk, IsErrOf};
 ghost use Rattle.std.specs.Io.{StartsWith, appended_bytes};
 ghost use Rattle.std.specs.Io.KnownBytes.{Consumes, IsAtEnd};
 ghost use Rattle.it_io.specs.Faults.{Rose};
@@ -28,8 +28,11 @@ pub fn read_all<S: Source>(alloc: Global, src: &mut S, limit: usize) -> Result<V
     ensures ok { IfOk result (λ v.
         ReadToEnd (S.left src.old) (S.left src.new) v.items × (length v.items ≤ limit)) }
     ensures fault { IsErrOf result ReadErr.Fault → Rose (S.faults src.old) (S.faults src.new) }
+    ensures no_fault { result ≢ Err ReadErr.Fault → S.faults src.new ≡ S.faults src.old }
     ensures too_big { IsErrOf result ReadErr.TooBig →
         TookPast (S.left src.old) (S.left src.new) limit }
+    ensures no_memory { IsErrOf result ReadErr.NoMemory →
+        TookAtMost (S.left src.old) (S.left src.new) limit }
     ensures later { S.faults src.old ≤ S.faults src.new }
 
     // Whatever the answer.
@@ -53,8 +56,11 @@ fn read_piece<S: Source>(src: &mut S, all: &mut Vec<u8>, limit: usize) -> Result
         (appended_bytes all.old.items all.new.items)) }
     ensures end { IfOk result (λ n. n ≡ 0 → IsAtEnd (S.left src.new)) }
     ensures fault { IsErrOf result ReadErr.Fault → Rose (S.faults src.old) (S.faults src.new) }
+    ensures no_fault { result ≢ Err ReadErr.Fault → S.faults src.new ≡ S.faults src.old }
     ensures too_big { IsErrOf result ReadErr.TooBig →
         TookExactly (S.left src.old) (S.left src.new) (limit + 1 - length all.old.items) }
+    ensures no_memory { IsErrOf result ReadErr.NoMemory →
+        TookAtMost (S.left src.old) (S.left src.new) (limit - length all.old.items) }
     ensures later { S.faults src.old ≤ S.faults src.new }
     ensures most { OnErr result
         (TookAtMost (S.left src.old) (S.left src.new) (limit + 1 - length all.old.items)) }

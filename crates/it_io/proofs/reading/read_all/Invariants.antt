@@ -1,11 +1,11 @@
-use Rattle.std.proofs.Common.{length, ◌-◌, ◌≤◌}
+use Rattle.std.proofs.Common.{◌≡◌, length, ◌-◌, ◌≤◌}
 use Rattle.std.specs.Io.KnownBytes.{Consumes}
 use Rattle.it_io.proofs.reading.read_all.Given as goal
 
 abbrev pub invariant-loop-all : goal.invariant-loop-all
 invariant-loop-all g l = record {
   within : length l.all.items ≤ l.limit;
-  later : g.S.Source.faults l.fn.src ≤ g.S.Source.faults l.src;
+  faults : g.S.Source.faults l.src ≡ g.S.Source.faults l.fn.src;
   taken : Consumes (g.S.Source.left l.fn.src) (g.S.Source.left l.src) l.all.items;
 }
 
