@@ -1,6 +1,9 @@
 pub mod Allowed
 pub mod Declared
+pub mod Least
 pub mod Leaving
 pub mod Readiness
 pub mod RowCases
 pub mod Settling
+pub mod Timing
+pub mod OutsideWaits

@@ -24,6 +24,8 @@ met-raised semaphores s m e (targets.Semaphore t) = elim (cases_eq t.0 s.0) [
   | inl same ↦ (let yes_for = eq-eqb t.0 s.0 same in ap (λ i. ltb 0 (count_of (get (change semaphores s.0 one_more) i))) same ∙ count-raised_same semaphores s m e ∙ sym (rw yes_for refl))
   | inr other ↦ (let no_for = ne_eqb t.0 s.0 other in ap (λ o. ltb 0 (count_of o)) (get-change_other semaphores s.0 t.0 one_more other) ∙ sym (rw no_for refl))
 ]
+met-raised semaphores s m e targets.Delay = refl
+met-raised semaphores s m e targets.Outside = refl
 
 -- after a signal the calls on its semaphore are ready, and those that were
 pub raised : (semaphores : List (Option Semaphore)) (s : ObjId) (m : Semaphore)
@@ -46,6 +48,8 @@ met-lowered semaphores s m e (targets.Semaphore t) = elim (cases_eq t.0 s.0) [
   | inl same ↦ λ h. rw same (count-lowered_same semaphores s m e (rw same at h))
   | inr other ↦ λ h. ap (λ o. ltb 0 (count_of o)) (sym (get-change_other semaphores s.0 t.0 one_less other)) ∙ h
 ]
+met-lowered semaphores s m e targets.Delay = λ h. h
+met-lowered semaphores s m e targets.Outside = λ h. h
 
 -- after a count was taken no call is ready that wasn't
 pub lowered : (semaphores : List (Option Semaphore)) (s : ObjId) (m : Semaphore)

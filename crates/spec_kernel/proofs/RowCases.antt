@@ -1,5 +1,5 @@
 -- The rows case by case: the outcome of each call, and that no call is ready after it.
-use Rattle.std.proofs.Common.{◌≡◌, ◌+◌, ◌-◌, ◌<◌, true, false, List, [], ◌∷◌, ◌++◌, Option, Some, None, refl, ap, ◌∙◌, inl, inr, arith}
+use Rattle.std.proofs.Common.{◌≡◌, ℕ, ◌+◌, ◌-◌, ◌<◌, true, false, List, [], ◌∷◌, ◌++◌, Option, Some, None, refl, ap, ◌∙◌, inl, inr, arith}
 use Rattle.std.proofs.lemmas.Bool.{cases_Bool, eqb-true, lt-ltb}
 use Rattle.it_types.specs.declared.id.ObjId.{ObjId}
 use Rattle.it_types.specs.declared.id.TaskId.{TaskId}
@@ -7,9 +7,10 @@ use Rattle.it_types.specs.declared.id.CallNo.{CallNo}
 use Rattle.it_types.specs.declared.er.Er.{Er}
 use Rattle.it_types.specs.declared.er.TheConstants.{E_OK}
 use Rattle.it_types.specs.declared.timeout.Tmo.{Tmo}
+use Rattle.it_types.specs.declared.timeout.Tmo.TheVariants as timeouts
 use Rattle.it_types.specs.declared.context.Ctx.{Ctx}
 use Rattle.it_types.specs.declared.kernel_request.KReq.{KReq}
-use Rattle.it_types.specs.declared.kernel_request.KReq.TheVariants.{ExtTsk, SigSem, TwaiSem}
+use Rattle.it_types.specs.declared.kernel_request.KReq.TheVariants.{ExtTsk, DlyTsk, SigSem, TwaiSem}
 use Rattle.spec_lists.specs.Tables.{get, change}
 use Rattle.spec_lists.specs.First.{take_first}
 use Rattle.spec_lists.specs.Refusal.{first_refusal}
@@ -22,7 +23,7 @@ use Rattle.spec_kernel.specs.declared.wait.WaitFor.TheVariants as targets
 use Rattle.spec_kernel.specs.declared.outcome.KAns.TheVariants.{Now}
 use Rattle.spec_kernel.specs.PlainKernel.{PlainKernel, nobody}
 use Rattle.spec_kernel.specs.Semaphores.{count_of, one_more, one_less}
-use Rattle.spec_kernel.specs.Settle.{Outcome, is_met, is_ready, first_ready, AtRest, taken, freed, end_of, settled}
+use Rattle.spec_kernel.specs.Settle.{Outcome, is_met, is_ready, first_ready, AtRest, taken, woken, freed, end_of, settled}
 use Rattle.spec_kernel.specs.Rows.{is_for, is_on, is_poll, caller, deadline_of, refusals, answered, waiting, accepted, exited, carried_out, row, call}
 use Rattle.spec_kernel.proofs.Allowed.{signal_there}
 use Rattle.spec_kernel.proofs.Readiness.{first_raised, none_lowered}
@@ -62,10 +63,6 @@ row_carried_out k ctx request number e = rw e refl
 abbrev pub signalled : PlainKernel → ObjId → PlainKernel
 signalled k s = record k { semaphores = change k.semaphores s.0 one_more }
 
--- the kernel after a signal that ends a call
-abbrev pub passed_on : PlainKernel → Wait → List Wait → PlainKernel
-passed_on k w others = record k { waits = others; runnable = k.runnable ++ w.task ∷ [] }
-
 -- the kernel after a count was taken
 abbrev pub acquired : PlainKernel → ObjId → PlainKernel
 acquired k s = record k { semaphores = change k.semaphores s.0 one_less }
@@ -94,19 +91,21 @@ taken-signalled : (semaphores : List (Option Semaphore)) (s : ObjId) (m : Semaph
     → get semaphores s.0 ≡ Some m
     → (t : WaitFor) → is_for s t ≡ true → taken t (change semaphores s.0 one_more) ≡ semaphores
 taken-signalled semaphores s m there (targets.Semaphore t) same = rw (eqb-true t.0 s.0 same) (change_undone semaphores s.0 one_more one_less m there (one_less-one_more m))
+taken-signalled semaphores s m there targets.Delay same = absurd cc
+taken-signalled semaphores s m there targets.Outside same = absurd cc
 
 freed-signalled : (k : PlainKernel) (s : ObjId) (m : Semaphore) (x : Wait × List Wait)
     → get k.semaphores s.0 ≡ Some m
     → is_on s x.0 ≡ true
-    → freed (signalled k s) x.0 x.1 ≡ passed_on k x.0 x.1
-freed-signalled k s m x there on = ap (λ semaphores. record (passed_on k x.0 x.1) { semaphores = semaphores }) (taken-signalled k.semaphores s m there x.0.target on)
+    → freed (signalled k s) x.0 x.1 ≡ woken k x.0 x.1
+freed-signalled k s m x there on = ap (λ semaphores. record (woken k x.0 x.1) { semaphores = semaphores }) (taken-signalled k.semaphores s m there x.0.target on)
 
 -- a signal on which calls wait ends the first of them, and the count stays
 pub signal_ends : (k : PlainKernel) (ctx : Ctx) (s : ObjId) (number : CallNo) (x : Wait × List Wait)
     → AtRest k
     → first_refusal (refusals k ctx (SigSem s)) ≡ None
     → take_first (is_on s) k.waits ≡ Some x
-    → call k ctx (SigSem s) number ≡ record { kernel = passed_on k x.0 x.1; answer = Now E_OK []; ends = end_of x.0 ∷ []; gone = nobody; begun = nobody }
+    → call k ctx (SigSem s) number ≡ record { kernel = woken k x.0 x.1; answer = Now E_OK []; ends = end_of x.0 ∷ []; gone = nobody; begun = nobody }
 signal_ends k ctx s number x rest allowed first =
     let m = signal_there k ctx s allowed in
     let it = found (is_on s) (is_ready k.semaphores) k.waits x rest first in
@@ -162,6 +161,15 @@ wait_accepts k ctx s tmo number rest allowed unmet =
 
     accepting : carried_out k ctx (TwaiSem s tmo) number ≡ outcome
     accepting = rw unmet refl
+
+-- a delay that nothing refuses waits
+pub delay_waits : (k : PlainKernel) (ctx : Ctx) (ticks : ℕ) (number : CallNo)
+    → AtRest k
+    → first_refusal (refusals k ctx (DlyTsk ticks)) ≡ None
+    → call k ctx (DlyTsk ticks) number ≡ waiting k (caller ctx) targets.Delay (timeouts.Ms ticks) number
+delay_waits k ctx ticks number rest allowed =
+    call_none k ctx (DlyTsk ticks) number (waiting k (caller ctx) targets.Delay (timeouts.Ms ticks) number) (row_carried_out k ctx (DlyTsk ticks) number allowed)
+    (waiting_rests k (caller ctx) targets.Delay (timeouts.Ms ticks) number rest refl)
 
 -- a task that ends makes no call ready
 pub exit_ends : (k : PlainKernel) (ctx : Ctx) (number : CallNo)

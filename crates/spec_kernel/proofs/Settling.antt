@@ -8,11 +8,12 @@ use Rattle.it_types.specs.declared.er.Er.{Er}
 use Rattle.it_types.specs.declared.id.TaskId.{TaskId}
 use Rattle.it_types.specs.declared.timeout.Tmo.{Tmo}
 use Rattle.it_types.specs.declared.kernel_request.KReq.{KReq}
-use Rattle.it_types.specs.declared.kernel_request.KReq.TheVariants.{ExtTsk, SigSem, TwaiSem}
+use Rattle.it_types.specs.declared.kernel_request.KReq.TheVariants.{ExtTsk, DlyTsk, SigSem, TwaiSem}
 use Rattle.spec_lists.specs.Refusal.{first_refusal}
 use Rattle.spec_lists.proofs.Firsts.{cases_of_first, take_first-shorter}
 use Rattle.spec_kernel.specs.declared.wait.Wait.{Wait}
 use Rattle.spec_kernel.specs.declared.wait.WaitFor.{WaitFor}
+use Rattle.spec_kernel.specs.declared.outcome.KAns.TheVariants.{Pends}
 use Rattle.spec_kernel.specs.PlainKernel.{PlainKernel}
 use Rattle.spec_kernel.specs.Settle.{Outcome, is_ready, first_ready, AtRest, freed, end_of, settle, settled}
 use Rattle.spec_kernel.specs.declared.wait.WaitFor.TheVariants as targets
@@ -74,6 +75,15 @@ settle-tasks (suc n) k = elim (cases_of_first (first_ready k)) [
   | inr w ↦ rw w.1 (settle-tasks n (freed k w.0.0 w.0.1))
 ]
 
+-- no call waits that didn't
+pub settle-waits_le : (n : ℕ) (k : PlainKernel) → length (settle n k).0.waits ≤ length k.waits
+unfolding settle
+settle-waits_le zero k = omega arith
+settle-waits_le (suc n) k = elim (cases_of_first (first_ready k)) [
+  | inl e ↦ rw e (omega arith)
+  | inr w ↦ rw w.1 (omega (arith, settle-waits_le n (freed k w.0.0 w.0.1), take_first-shorter (is_ready k.semaphores) k.waits w.0 w.1))
+]
+
 pub settled_none : (o : Outcome) → first_ready o.kernel ≡ None → settled o ≡ o
 unfolding settled
 settled_none o e = rw (settle_none (length o.kernel.waits) o.kernel e, append-nil) refl
@@ -102,22 +112,27 @@ pub settled-tasks : (o : Outcome) → (settled o).kernel.tasks ≡ o.kernel.task
 unfolding settled
 settled-tasks o = settle-tasks (length o.kernel.waits) o.kernel
 
+pub settled-waits_le : (o : Outcome) → length (settled o).kernel.waits ≤ length o.kernel.waits
+unfolding settled
+settled-waits_le o = settle-waits_le (length o.kernel.waits) o.kernel
+
 pub settled-answer : (o : Outcome) → (settled o).answer ≡ o.answer
 unfolding settled
 settled-answer o = refl
 
--- a row leaves the time, and the last number unless it waits
+-- a row leaves the time, and the last number unless it waits under the new one
 abbrev Stays : PlainKernel → CallNo → Outcome → Type 0
-Stays k number o = (o.kernel.now ≡ k.now) × ((o.kernel.last_call ≡ number.0) ⊎ (o.kernel.last_call ≡ k.last_call))
+Stays k number o = (o.kernel.now ≡ k.now) × (((o.answer ≡ Pends) × (o.kernel.last_call ≡ number.0)) ⊎ (o.kernel.last_call ≡ k.last_call))
 
 accepted_stays : (k : PlainKernel) (task : TaskId) (target : WaitFor) (tmo : Tmo) (number : CallNo) → Stays k number (accepted k task target tmo number)
 accepted_stays k task target tmo number = elim (cases_Bool (is_poll tmo)) [
   | inl t ↦ rw t (refl, inr refl)
-  | inr t ↦ rw t (refl, inl refl)
+  | inr t ↦ rw t (refl, inl (refl, refl))
 ]
 
 carried_out_stays : (k : PlainKernel) (ctx : Ctx) (request : KReq) (number : CallNo) → Stays k number (carried_out k ctx request number)
 carried_out_stays k ctx ExtTsk number = (refl, inr refl)
+carried_out_stays k ctx (DlyTsk ticks) number = (refl, inl (refl, refl))
 carried_out_stays k ctx (SigSem s) number = (refl, inr refl)
 carried_out_stays k ctx (TwaiSem s tmo) number = elim (cases_Bool (ltb 0 (count_of (get k.semaphores s.0)))) [
   | inl t ↦ rw t (refl, inr refl)
@@ -141,14 +156,15 @@ pub call-now : (k : PlainKernel) (ctx : Ctx) (request : KReq) (number : CallNo) 
 unfolding call
 call-now k ctx request number = settled-now (row k ctx request number) ∙ (row_stays k ctx request number).0
 
--- the last number is that of the call, or it stays
+-- the call waits, and the last number is its own, or the last number stays
 pub call-last_call : (k : PlainKernel) (ctx : Ctx) (request : KReq) (number : CallNo)
-    → ((call k ctx request number).kernel.last_call ≡ number.0) ⊎ ((call k ctx request number).kernel.last_call ≡ k.last_call)
+    → (((call k ctx request number).answer ≡ Pends) × ((call k ctx request number).kernel.last_call ≡ number.0)) ⊎ ((call k ctx request number).kernel.last_call ≡ k.last_call)
 unfolding call
-call-last_call k ctx request number = elim (row_stays k ctx request number).1 [
-  | inl e ↦ inl (settled-last_call (row k ctx request number) ∙ e)
-  | inr e ↦ inr (settled-last_call (row k ctx request number) ∙ e)
-]
+call-last_call k ctx request number =
+    let o : Outcome = row k ctx request number in elim (row_stays k ctx request number).1 [
+      | inl h ↦ inl (settled-answer o ∙ h.0, settled-last_call o ∙ h.1)
+      | inr h ↦ inr (settled-last_call o ∙ h)
+    ]
 
 -- where no call is ready, a tick ends none
 pub tick_rests : (k : PlainKernel) → AtRest k → tick k ≡ quiet (ticked k)

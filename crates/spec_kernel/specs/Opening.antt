@@ -1,4 +1,4 @@
--- The kernel at its opening.
+-- The kernel at its opening (µITRON4.0 section 4.1 for the tasks that are active from the start, 4.4.1 for the semaphores).
 use Rattle.std.specs.Prelude.{◌≡◌, ℕ, Bool, true, ◌&&◌, List, [], ◌∷◌, Option, Some, is_none, nat_le, map, not, slice_set}
 use Rattle.std.specs.List.{list_all}
 use Rattle.it_types.specs.declared.id.TaskId.{TaskId}

@@ -1,5 +1,5 @@
--- The state of the kernel as plain lists. Ranks are places: a task that becomes runnable and a call that is accepted go
--- to the end of their list.
+-- The state of the kernel as plain lists, which is this project's own. Ranks are places: a task that becomes runnable
+-- (µITRON4.0 section 3.2) and a call that is accepted go to the end of their list.
 use Rattle.std.specs.Prelude.{ℕ, List, Option}
 use Rattle.it_types.specs.declared.id.TaskId.{TaskId}
 use Rattle.spec_kernel.specs.declared.task.Task.{Task}

@@ -11,7 +11,7 @@ use Rattle.it_types.specs.declared.timeout.Tmo.TheVariants as timeouts
 use Rattle.it_types.specs.declared.context.Ctx.{Ctx}
 use Rattle.it_types.specs.declared.context.Ctx.TheVariants as contexts
 use Rattle.it_types.specs.declared.kernel_request.KReq.{KReq}
-use Rattle.it_types.specs.declared.kernel_request.KReq.TheVariants.{ExtTsk, SigSem, TwaiSem}
+use Rattle.it_types.specs.declared.kernel_request.KReq.TheVariants.{ExtTsk, DlyTsk, SigSem, TwaiSem}
 use Rattle.spec_lists.specs.Tables.{get, change}
 use Rattle.spec_lists.specs.Refusal.{first_refusal}
 use Rattle.spec_kernel.specs.declared.wait.Wait.{Wait}
@@ -40,7 +40,8 @@ abbrev pub is_poll : Tmo → Bool
 is_poll timeouts.Pol = true
 is_poll _ = false
 
--- the tick at which a call with this time-out ends, accepted at the tick now: t ticks are over at the tick after the t-th
+-- the tick at which a call with this time-out ends, accepted at the tick now (µITRON4.0 section 2.1, time-outs and relative time): t ticks are over at
+-- the tick after the t-th
 abbrev pub deadline_of : ℕ → Tmo → Option ℕ
 deadline_of now (timeouts.Ms ticks) = Some (now + ticks + 1)
 deadline_of now _ = None
@@ -52,14 +53,17 @@ is_wrong_id id = (id == 0) || nat_lt greatest_id id
 -- the call waits on this semaphore
 abbrev pub is_for : ObjId → WaitFor → Bool
 is_for s (targets.Semaphore t) = t.0 == s.0
+is_for s targets.Delay = false
+is_for s targets.Outside = false
 
 abbrev pub is_on : ObjId → Wait → Bool
 is_on s w = is_for s w.target
 
--- The refusals of a request, in the order in which they are tested (µITRON4.0 section 4.4.1 for the semaphores; the order
--- is this project's own).
+-- The refusals of a request, in the order in which they are tested (µITRON4.0 section 4.1 for the end of a task, 4.2 for
+-- the delay, 4.4.1 for the semaphores; the order is this project's own).
 abbrev pub refusals : PlainKernel → Ctx → KReq → List (Bool × Er)
 refusals k ctx ExtTsk = (is_handler ctx, E_CTX) ∷ []
+refusals k ctx (DlyTsk ticks) = (is_handler ctx, E_CTX) ∷ []
 refusals k ctx (SigSem s) =
     (is_wrong_id s.0, E_ID) ∷ (is_none (get k.semaphores s.0), E_NOEXS) ∷ (not (list_any (is_on s) k.waits) && is_full (get k.semaphores s.0), E_QOVR) ∷ []
 refusals k ctx (TwaiSem s tmo) =
@@ -100,6 +104,7 @@ exited k task = record {
 -- what a request changes where nothing refuses it
 abbrev pub carried_out : PlainKernel → Ctx → KReq → CallNo → Outcome
 carried_out k ctx ExtTsk number = exited k (caller ctx)
+carried_out k ctx (DlyTsk ticks) number = waiting k (caller ctx) targets.Delay (timeouts.Ms ticks) number
 carried_out k ctx (SigSem s) number = answered (record k { semaphores = change k.semaphores s.0 one_more }) E_OK
 carried_out k ctx (TwaiSem s tmo) number =
     if nat_lt 0 (count_of (get k.semaphores s.0)) then answered (record k { semaphores = change k.semaphores s.0 one_less }) E_OK else accepted k (caller ctx) (targets.Semaphore s) tmo number

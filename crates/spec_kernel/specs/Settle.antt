@@ -1,4 +1,5 @@
--- Which waiting call is met, and the ends of all that are, one after another.
+-- Which waiting call is met, and the ends of all that are, one after another (µITRON4.0 section 4.4.1 for the semaphores;
+-- that all ends of an event come one after another in one step is this project's own).
 use Rattle.std.specs.Prelude.{◌≡◌, ℕ, zero, suc, Bool, false, List, [], ◌∷◌, ◌++◌, length, Option, Some, None, nat_lt}
 use Rattle.it_types.specs.declared.id.TaskId.{TaskId}
 use Rattle.it_types.specs.declared.er.TheConstants.{E_OK}
@@ -22,9 +23,12 @@ pub record Outcome : Type 0 where
   pub gone : TaskId
   pub begun : TaskId
 
--- a call is ready: the condition that it waits for holds
+-- a call is ready: the condition that it waits for holds; a delay is over by its deadline alone, and what a call of the
+-- network part waits for the kernel doesn't know
 abbrev pub is_met : List (Option Semaphore) → WaitFor → Bool
 is_met semaphores (targets.Semaphore s) = nat_lt 0 (count_of (get semaphores s.0))
+is_met semaphores targets.Delay = false
+is_met semaphores targets.Outside = false
 
 abbrev pub is_ready : List (Option Semaphore) → Wait → Bool
 is_ready semaphores w = is_met semaphores w.target
@@ -40,10 +44,16 @@ AtRest k = first_ready k ≡ None
 -- what the end of a call takes from the semaphores
 abbrev pub taken : WaitFor → List (Option Semaphore) → List (Option Semaphore)
 taken (targets.Semaphore s) semaphores = change semaphores s.0 one_less
+taken targets.Delay semaphores = semaphores
+taken targets.Outside semaphores = semaphores
 
--- the state after a call was met and ended, with the other calls that wait; its task becomes runnable
+-- the state after a call has ended that takes nothing, with the other calls that wait; its task becomes runnable
+abbrev pub woken : PlainKernel → Wait → List Wait → PlainKernel
+woken k w others = record k { waits = others; runnable = k.runnable ++ w.task ∷ [] }
+
+-- the state after a call was met and ended: it takes what it waited for
 abbrev pub freed : PlainKernel → Wait → List Wait → PlainKernel
-freed k w others = record k { semaphores = taken w.target k.semaphores; waits = others; runnable = k.runnable ++ w.task ∷ [] }
+freed k w others = record (woken k w others) { semaphores = taken w.target k.semaphores }
 
 abbrev pub end_of : Wait → KEnd
 end_of w = record { call = w.call; task = w.task; code = E_OK; bytes = []; outside = false }

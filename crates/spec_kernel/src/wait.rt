@@ -5,6 +5,10 @@ use it_types::{CallNo, ObjId, TaskId};
 pub enum WaitFor {
     /// A count of the semaphore.
     Semaphore(ObjId),
+    /// The end of a delay, and nothing else.
+    Delay,
+    /// The end of a call of the network part, which tells the kernel so.
+    Outside,
 }
 
 impl Default for WaitFor {
@@ -13,7 +17,7 @@ impl Default for WaitFor {
     }
 }
 
-/// A call that waits: its number, its task, what it waits for, and the tick at which it ends by time, if any.
+/// A call that waits: its number, its task, what it waits for, and its deadline: the tick at which it ends by time, if any.
 #[derive(Clone, Copy, Debug, Default)]
 pub struct Wait {
     pub call: CallNo,

@@ -1,4 +1,4 @@
--- The first of a list that passes a test.
+-- The first of a list that passes a test: a word of this project's own.
 use Rattle.std.specs.Prelude.{Bool, List, [], ◌∷◌, Option, Some, None, if◌then◌else◌}
 
 abbrev pub put_back : {X : Type 0} → X → Option (X × List X) → Option (X × List X)

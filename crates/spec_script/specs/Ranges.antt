@@ -56,16 +56,22 @@ abbrev pub is_repeated : List Decl → Decl → Bool
 is_repeated before (declarations.Task task body) = list_any (is_task task.id) before
 is_repeated before (declarations.Sem sem) = list_any (is_semaphore sem.id) before
 
--- a time-out that can be written: pol or fevr
+-- the greatest number of ticks of a time-out or a delay
+abbrev pub greatest_time : ℕ
+greatest_time = 1000000
+
+-- a time-out that can be written: pol, fevr, or a number of ticks from 1 on
 abbrev pub is_written_timeout : Tmo → Bool
 is_written_timeout timeouts.Pol = true
 is_written_timeout timeouts.Fevr = true
+is_written_timeout (timeouts.Ms ticks) = nat_le 1 ticks && nat_le ticks greatest_time
 is_written_timeout _ = false
 
--- a call that can be written, whose ids are below 2^32
+-- a call that can be written, whose ids are below 2^32 and whose times are in their ranges
 abbrev pub is_written_call : Req → Bool
 is_written_call (requests.SigSem sem) = nat_lt sem.0 4294967296
 is_written_call (requests.TwaiSem sem tmo) = nat_lt sem.0 4294967296 && is_written_timeout tmo
+is_written_call (requests.DlyTsk ticks) = nat_le ticks greatest_time
 is_written_call requests.ExtTsk = false
 
 abbrev pub is_written_line : Line → Bool

@@ -37,6 +37,12 @@ semaphore id init max = declarations.Sem (record { id = id; pri = false; init = 
 abbrev pub waits : ℕ → Req
 waits id = requests.TwaiSem (record { 0 = id }) timeouts.Fevr
 
+abbrev pub waits_up_to : ℕ → ℕ → Req
+waits_up_to id ticks = requests.TwaiSem (record { 0 = id }) (timeouts.Ms ticks)
+
+abbrev pub delays : ℕ → Req
+delays ticks = requests.DlyTsk ticks
+
 abbrev pub signals : ℕ → Req
 signals id = requests.SigSem (record { 0 = id })
 
@@ -72,6 +78,10 @@ run_mark id = marks.Run (record { 0 = id })
 
 abbrev pub exits : Req
 exits = requests.ExtTsk
+
+-- a tick with the ends of calls, and the marks
+abbrev pub tick_with : ℕ → List CallEnd → List Mark → Entry
+tick_with node ends marked = entry (events.Tick (record { 0 = node })) answers.Quiet ends marked
 
 abbrev pub tick : ℕ → Entry
 tick node = entry (events.Tick (record { 0 = node })) answers.Quiet [] []

@@ -3,3 +3,5 @@ pub mod Handoff
 pub mod Overflow
 pub mod Declarable
 pub mod Events
+pub mod Timeout
+pub mod Deadlines

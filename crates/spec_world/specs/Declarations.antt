@@ -1,4 +1,4 @@
--- What the declarations of a script give the nodes at their opening.
+-- What the declarations of a script give the nodes at their opening, which is this project's own.
 use Rattle.std.specs.Prelude.{ℕ, List, [], ◌∷◌, Option, Some, None, slice_get, ◌==◌, if◌then◌else◌}
 use Rattle.it_types.specs.declared.id.TaskId.{TaskId}
 use Rattle.it_types.specs.declared.request.Req.{Req}

@@ -1,4 +1,5 @@
--- One node: its kernel, the answers that its tasks have not taken yet, and the numbers of its calls.
+-- One node: its kernel, the answers that its tasks have not taken yet, and the numbers of its calls. It is this project's
+-- own, as is the history's entry.
 use Rattle.std.specs.Prelude.{ℕ, ◌+◌, Bool, true, false, List, [], ◌∷◌, ◌++◌, Option, Some, None, ◌==◌, if◌then◌else◌, map}
 use Rattle.it_types.specs.KernelPart.{kernel_part}
 use Rattle.it_types.specs.declared.id.NodeId.{NodeId}
@@ -21,6 +22,7 @@ use Rattle.spec_kernel.specs.declared.outcome.KEnd.{KEnd}
 use Rattle.spec_kernel.specs.PlainKernel.{PlainKernel}
 use Rattle.spec_kernel.specs.Tasks.{running}
 use Rattle.spec_kernel.specs.Settle.{Outcome}
+use Rattle.spec_kernel.specs.Deadlines.{timed_out}
 use Rattle.spec_kernel.specs.Rows.{call, tick}
 use Rattle.spec_world.specs.declared.held.Held.{Held}
 
@@ -100,6 +102,6 @@ held_answer None = answers.Quiet
 unfoldable pub node_return : NodeId → PlainNode → TaskId → PlainNode × Entry
 node_return id n task = (record n { held = slice_set n.held task.0 None }, plain_entry (events.Return id task) (held_answer (get n.held task.0)))
 
--- a tick of the node's clock
+-- a tick of the node's clock, and the ends of all calls whose deadline is past then
 unfoldable pub node_tick : NodeId → PlainNode → PlainNode × Entry
-node_tick id n = let o = tick n.kernel in (after_outcome n o, entry_of (events.Tick id) n.kernel n.calls o)
+node_tick id n = let o = timed_out (tick n.kernel) in (after_outcome n o, entry_of (events.Tick id) n.kernel n.calls o)

@@ -1,4 +1,4 @@
--- Two nodes, the step of an event, and which events are admitted.
+-- Two nodes, the step of an event, and which events are admitted. It is this project's own.
 use Rattle.std.specs.Prelude.{Bool, true, false, not, ◌&&◌, is_some, nat_le, ◌==◌, if◌then◌else◌}
 use Rattle.it_types.specs.declared.id.NodeId.{NodeId}
 use Rattle.it_types.specs.declared.id.TaskId.{TaskId}
