@@ -1,2 +1,4 @@
 pub mod AtRest
 pub mod Scheduled
+pub mod Taken
+pub mod ByRank

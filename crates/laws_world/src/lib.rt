@@ -3,7 +3,11 @@
 #![tactic(auto)]
 
 mod at_rest;
+mod ranks;
+mod runnable;
 mod scheduled;
 
-pub use at_rest::no_ready_call_waits;
+pub use at_rest::no_call_waits_too_long;
+pub use ranks::places_are_ranks;
+pub use runnable::runnable_tasks_are_exact;
 pub use scheduled::serial_is_scheduled;

@@ -1,0 +1,143 @@
+-- The kernel with ranks does what the kernel with places does.
+use Rattle.std.proofs.Common.{◌≡◌, ◌≢◌, ℕ, zero, suc, ◌<◌, List, ◌∷◌, ◌++◌, length, Option, Some, None, refl, ap, subst, inl, inr, ltb}
+use Rattle.std.proofs.lemmas.Bool.{cases_Bool}
+use Rattle.it_types.specs.declared.id.TaskId.{TaskId}
+use Rattle.it_types.specs.declared.id.CallNo.{CallNo}
+use Rattle.it_types.specs.declared.er.Er.{Er}
+use Rattle.it_types.specs.declared.context.Ctx.{Ctx}
+use Rattle.it_types.specs.declared.context.Ctx.TheVariants as contexts
+use Rattle.it_types.specs.declared.timeout.Tmo.{Tmo}
+use Rattle.it_types.specs.declared.timeout.Tmo.TheVariants as timeouts
+use Rattle.it_types.specs.declared.kernel_request.KReq.{KReq}
+use Rattle.it_types.specs.declared.kernel_request.KReq.TheVariants.{ExtTsk, DlyTsk, SigSem, TwaiSem}
+use Rattle.spec_lists.specs.Tables.{get}
+use Rattle.spec_lists.specs.Refusal.{first_refusal}
+use Rattle.spec_lists.proofs.Firsts.{cases_of_first}
+use Rattle.spec_kernel.specs.declared.wait.Wait.{Wait}
+use Rattle.spec_kernel.specs.declared.wait.WaitFor.{WaitFor}
+use Rattle.spec_kernel.specs.declared.wait.WaitFor.TheVariants as targets
+use Rattle.spec_kernel.specs.declared.outcome.KEnd.{KEnd}
+use Rattle.spec_kernel.specs.PlainKernel.{PlainKernel}
+use Rattle.spec_kernel.specs.Semaphores.{count_of}
+use Rattle.spec_kernel.specs.Tasks.{running}
+use Rattle.spec_kernel.specs.Settle.{Outcome, is_ready, first_ready, freed, end_of, settle, settled}
+use Rattle.spec_kernel.specs.Deadlines.{is_next_past, next_past, ended_by_time, due, time_out, timed_out}
+use Rattle.spec_kernel.specs.Rows.{is_poll, deadline_of, refusals, accepted, carried_out, unless_refused, row, call, tick, quiet, ticked}
+use Rattle.laws_kernel.specs.Ranks.{Ranks, Ended, Ranked, task_draws, row_draws, settle_by_rank, settled_by_rank, call_by_rank, ended_by_time_and_rank, time_out_by_rank, tick_by_rank, more_ends}
+use Rattle.laws_kernel.proofs.Rising.{first_is_least}
+use Rattle.laws_kernel.proofs.Standing.{call_rank, StandsFor, freed_stands, waiting_stands, exited_stands}
+use Rattle.laws_kernel.proofs.Urgent.{running_listed}
+
+-- what ends of calls leave by ranks is what they leave by places
+pub record SameEnds (x : Ended) (y : PlainKernel × List KEnd) : Type 0 where
+  pub kernel : x.kernel ≡ y.0
+  pub ends : x.ends ≡ y.1
+  pub stands : StandsFor x.kernel x.ranks
+
+-- an outcome by ranks is that by places
+pub record SameOutcome (x : Ranked) (o : Outcome) : Type 0 where
+  pub outcome : x.outcome ≡ o
+  pub stands : StandsFor x.outcome.kernel x.ranks
+
+-- ---- settling
+
+settle_same : (n : ℕ) (k : PlainKernel) (r : Ranks) → StandsFor k r → SameEnds (settle_by_rank n k r) (settle n k)
+unfolding settle_by_rank settle
+settle_same zero k r h = record { kernel = refl; ends = refl; stands = h }
+settle_same (suc n) k r h =
+    rw (first_is_least (is_ready k.semaphores) (call_rank r) k.waits h.calls_rise)
+    (elim (cases_of_first (first_ready k)) [
+      | inl none ↦ rw none (record { kernel = refl; ends = refl; stands = h })
+      | inr some ↦ (
+          let z : Wait × List Wait = some.0 in
+          let rest = settle_same n (freed k z.0 z.1) (task_draws z.0.task r) (freed_stands h (is_ready k.semaphores) z some.1) in
+          rw some.1 (record { kernel = rest.kernel; ends = ap (λ es. end_of z.0 ∷ es) rest.ends; stands = rest.stands })
+          )
+    ])
+
+settled_same : (o : Outcome) (r : Ranks) → StandsFor o.kernel r → SameOutcome (settled_by_rank o r) (settled o)
+unfolding settled_by_rank settled
+settled_same o r h = let rest = settle_same (length o.kernel.waits) o.kernel r h in record { outcome = rw (rest.kernel, rest.ends) refl; stands = rest.stands }
+
+-- ---- the rows
+
+-- who may call: a handler, or the running task
+abbrev pub MayCall : PlainKernel → Ctx → Type 0
+MayCall k contexts.Handler = Unit {0}
+MayCall k (contexts.Task t) = (t.0 ≢ 0) × (running k.tasks k.runnable ≡ t)
+
+record RowStands (number : CallNo) (r : Ranks) (o : Outcome) : Type 0 where
+  stands : StandsFor o.kernel (row_draws o.answer number r)
+
+unless_refused_stands : (k : PlainKernel) (r : Ranks) (number : CallNo) (refusal : Option Er) (o : Outcome)
+    → StandsFor k r
+    → (refusal ≡ None → RowStands number r o)
+    → RowStands number r (unless_refused refusal k o)
+unless_refused_stands k r number None o h carried = carried refl
+unless_refused_stands k r number (Some code) o h carried = record { stands = h }
+
+module _ (k : PlainKernel) (r : Ranks) (number : CallNo) (h : StandsFor k r) (lt : k.last_call < number.0) where
+  accepted_stands : (t : TaskId) (target : WaitFor) (tmo : Tmo) → t.0 ≢ 0 → running k.tasks k.runnable ≡ t → RowStands number r (accepted k t target tmo number)
+  accepted_stands t target tmo some runs = elim (cases_Bool (is_poll tmo)) [
+    | inl poll ↦ rw poll (record { stands = h })
+    | inr waits ↦ rw waits (record { stands = waiting_stands h t number target (deadline_of k.now tmo) (running_listed k.tasks k.runnable t some runs) lt })
+  ]
+
+  carried_out_stands : (ctx : Ctx) (request : KReq) → MayCall k ctx → first_refusal (refusals k ctx request) ≡ None → RowStands number r (carried_out k ctx request number)
+  carried_out_stands ctx (SigSem s) may allowed = record { stands = h }
+  carried_out_stands contexts.Handler ExtTsk may allowed = absurd cc
+  carried_out_stands contexts.Handler (DlyTsk ticks) may allowed = absurd cc
+  carried_out_stands contexts.Handler (TwaiSem s tmo) may allowed = absurd cc
+  carried_out_stands (contexts.Task t) ExtTsk may allowed = record { stands = exited_stands h t (running_listed k.tasks k.runnable t may.0 may.1) }
+  carried_out_stands (contexts.Task t) (DlyTsk ticks) may allowed =
+      record { stands = waiting_stands h t number targets.Delay (deadline_of k.now (timeouts.Ms ticks)) (running_listed k.tasks k.runnable t may.0 may.1) lt }
+  carried_out_stands (contexts.Task t) (TwaiSem s tmo) may allowed = elim (cases_Bool (ltb 0 (count_of (get k.semaphores s.0)))) [
+    | inl met ↦ rw met (record { stands = h })
+    | inr unmet ↦ rw unmet (accepted_stands t (targets.Semaphore s) tmo may.0 may.1)
+  ]
+
+  row_stands : (ctx : Ctx) (request : KReq) → MayCall k ctx → RowStands number r (row k ctx request number)
+  row_stands ctx request may =
+      unless_refused_stands k r number (first_refusal (refusals k ctx request)) (carried_out k ctx request number) h (carried_out_stands ctx request may)
+
+  pub call_same : (ctx : Ctx) (request : KReq) → MayCall k ctx → SameOutcome (call_by_rank k r ctx request number) (call k ctx request number)
+  unfolding call_by_rank call
+  call_same ctx request may = settled_same (row k ctx request number) (row_draws (row k ctx request number).answer number r) (row_stands ctx request may).stands
+
+-- ---- ends by time
+
+more_same : (x : Ranked) (o : Outcome) (rest : Ended) (plain : PlainKernel × List KEnd)
+    → x.outcome ≡ o
+    → SameEnds rest plain
+    → SameEnds (more_ends x rest) (plain.0, o.ends ++ plain.1)
+more_same x o rest plain e h = record { kernel = h.kernel; ends = rw (e, h.ends) refl; stands = h.stands }
+
+time_out_same : (n : ℕ) (k : PlainKernel) (r : Ranks) → StandsFor k r → SameEnds (time_out_by_rank n k r) (time_out n k)
+unfolding time_out_by_rank time_out due
+time_out_same zero k r h = record { kernel = refl; ends = refl; stands = h }
+time_out_same (suc n) k r h = elim (cases_of_first (next_past k)) [
+  | inl none ↦ rw none (record { kernel = refl; ends = refl; stands = h })
+  | inr some ↦ (
+      let z : Wait × List Wait = some.0 in
+      let x : Ranked = ended_by_time_and_rank k r z in
+      let one = settled_same _ (task_draws z.0.task r) (freed_stands h (is_next_past k.now k.waits) z some.1) in
+      let rest = time_out_same n x.outcome.kernel x.ranks one.stands in
+      rw some.1 (more_same x (ended_by_time k z) (time_out_by_rank n x.outcome.kernel x.ranks) (time_out n (ended_by_time k z).kernel) one.outcome
+      (subst (λ (o : Outcome). SameEnds (time_out_by_rank n x.outcome.kernel x.ranks) (time_out n o.kernel)) one.outcome rest))
+      )
+]
+
+timed_out_same : (x : Ranked) (o : Outcome) → SameOutcome x o → SameOutcome (record { outcome = record x.outcome { kernel = (time_out_by_rank (length x.outcome.kernel.waits) x.outcome.kernel x.ranks).kernel; ends = x.outcome.ends ++ (time_out_by_rank (length x.outcome.kernel.waits) x.outcome.kernel x.ranks).ends }; ranks = (time_out_by_rank (length x.outcome.kernel.waits) x.outcome.kernel x.ranks).ranks }) (timed_out o)
+unfolding timed_out
+timed_out_same x o h =
+    let rest = time_out_same (length x.outcome.kernel.waits) x.outcome.kernel x.ranks h.stands in record {
+      outcome = rw (rest.kernel, rest.ends) (ap timed_out_of h.outcome);
+      stands = rest.stands;
+    }
+  where
+    timed_out_of : Outcome → Outcome
+    timed_out_of p = record p { kernel = (time_out (length p.kernel.waits) p.kernel).0; ends = p.ends ++ (time_out (length p.kernel.waits) p.kernel).1 }
+
+pub tick_same : (k : PlainKernel) (r : Ranks) → StandsFor k r → SameOutcome (tick_by_rank k r) (timed_out (tick k))
+unfolding tick_by_rank tick
+tick_same k r h = timed_out_same (settled_by_rank (quiet (ticked k)) r) (settled (quiet (ticked k))) (settled_same (quiet (ticked k)) r h)
