@@ -1,13 +1,16 @@
 -- What the code of each row does is what the row says, for the kernel that it began with: `before` are its tables, and
 -- `named` is the kernel that the contract names.
-use Rattle.std.proofs.Common.{◌≡◌, ◌<◌, ◌≤◌, ltb, None, Some, false, List, [], ◌∷◌, ap, sym, ◌∙◌, subst}
+use Rattle.std.proofs.Common.{◌≡◌, ℕ, ◌<◌, ◌≤◌, ltb, get_or, None, Some, true, false, List, [], ◌∷◌, refl, ap, sym, ◌∙◌, subst}
 use Rattle.std.proofs.lemmas.Bool.{le-ltb}
+use Rattle.std.specs.List.{remove}
 use Rattle.it_types.specs.declared.context.Ctx.{Ctx}
 use Rattle.it_types.specs.declared.er.TheConstants.{E_OK}
 use Rattle.it_types.specs.declared.id.CallNo.{CallNo}
 use Rattle.it_types.specs.declared.id.ObjId.{ObjId}
+use Rattle.it_types.specs.declared.id.TaskId.{TaskId}
 use Rattle.it_types.specs.declared.timeout.Tmo.{Tmo}
-use Rattle.it_types.specs.declared.kernel_request.KReq.TheVariants.{ExtTsk, SigSem, TwaiSem}
+use Rattle.it_types.specs.declared.timeout.Tmo.TheVariants as timeouts
+use Rattle.it_types.specs.declared.kernel_request.KReq.TheVariants.{ExtTsk, DlyTsk, SigSem, TwaiSem}
 use Rattle.spec_lists.specs.Tables.{get}
 use Rattle.spec_lists.specs.First.{take_first}
 use Rattle.spec_lists.specs.Refusal.{first_refusal}
@@ -16,10 +19,16 @@ use Rattle.spec_kernel.specs.declared.wait.Wait.{Wait}
 use Rattle.spec_kernel.specs.declared.wait.WaitFor.TheVariants as targets
 use Rattle.spec_kernel.specs.PlainKernel.{PlainKernel, nobody}
 use Rattle.spec_kernel.specs.Semaphores.{count_of, is_full}
-use Rattle.spec_kernel.specs.Settle.{Outcome, AtRest, end_of, first_ready}
-use Rattle.spec_kernel.specs.Rows.{is_on, caller, refusals, answered, accepted, exited, call}
+use Rattle.spec_kernel.specs.Settle.{Outcome, AtRest, end_of, first_ready, woken}
+use Rattle.spec_kernel.specs.Deadlines.{is_next_past, next_past, end_by_time, due}
+use Rattle.spec_kernel.specs.Outside.{outside_wait_of, unblocked}
+use Rattle.spec_kernel.proofs.Timing.{due_alone, due_none, next_past_none}
+use Rattle.spec_kernel.specs.declared.outcome.KEnd.{KEnd}
+use Rattle.k_core.specs.ByTime.{ended_alone}
+use Rattle.k_core.proofs.Places.{IsFirstAt}
+use Rattle.spec_kernel.specs.Rows.{is_on, caller, refusals, answered, waiting, accepted, exited, call}
 use Rattle.spec_kernel.proofs.Allowed.{signal_not_full}
-use Rattle.spec_kernel.proofs.RowCases.{acquired, exit_ends, passed_on, signal_ends, signal_raises, signalled, wait_accepts, wait_takes}
+use Rattle.spec_kernel.proofs.RowCases.{acquired, delay_waits, exit_ends, signal_ends, signal_raises, signalled, wait_accepts, wait_takes}
 use Rattle.k_core.specs.declared.done.Done.{Done}
 use Rattle.k_core.specs.Does.{Does}
 
@@ -49,6 +58,36 @@ pub not_full : {before named : PlainKernel} (ctx : Ctx) (s : ObjId)
     → is_full (get before.semaphores s.0) ≡ false
 not_full {before} ctx s same allowed none = signal_not_full before ctx s (ap (λ k. first_refusal (refusals k ctx (SigSem s))) same ∙ allowed) none
 
+-- the next call by time ends alone
+pub due_does : (before named after : PlainKernel) (e : KEnd) (w : Wait) (i : ℕ)
+    → before ≡ named
+    → AtRest before
+    → IsFirstAt (is_next_past before.now before.waits) before.waits i
+    → w ≡ get_or named.waits i w
+    → after ≡ woken named w (remove named.waits i)
+    → e ≡ end_by_time w
+    → due named ≡ Some (ended_alone after e)
+due_does before named after e w i same rest place at kernel end =
+    let next : next_past named ≡ Some (w, remove named.waits i) = (subst (λ (k : PlainKernel). IsFirstAt (is_next_past k.now k.waits) k.waits i) same place).1 w at in
+    due_alone named (w, remove named.waits i) (rests same rest) next ∙ ap (λ k. Some (ended_alone k (end_by_time w))) (sym kernel) ∙ ap (λ t. Some (ended_alone after t)) (sym end)
+
+-- no call ends by time
+pub nothing_due : (before named : PlainKernel) → before ≡ named → next_past before ≡ None → due named ≡ None
+nothing_due before named same none = ap due (sym same) ∙ due_none before (next_past_none before none)
+
+-- a task that waits outside is woken
+pub unblock_wakes : (k after : PlainKernel) (task : TaskId) (w : Wait) (others : List Wait)
+    → outside_wait_of k task ≡ Some (w, others)
+    → after ≡ woken k w others
+    → unblocked k task ≡ (after, true)
+unfolding unblocked
+unblock_wakes k after task w others first kernel = rw (first, kernel) refl
+
+-- one that doesn't is left as it is
+pub unblock_leaves : (k : PlainKernel) (task : TaskId) → outside_wait_of k task ≡ None → unblocked k task ≡ (k, false)
+unfolding unblocked
+unblock_leaves k task none = rw none refl
+
 module _ {before named : PlainKernel} (same : before ≡ named) (rest : AtRest before) where
   -- a signal on which no call waits
   pub raise_does : {after : PlainKernel} {done : Done} (ctx : Ctx) (s : ObjId) (number : CallNo)
@@ -65,12 +104,12 @@ module _ {before named : PlainKernel} (same : before ≡ named) (rest : AtRest b
   pub end_does : {after : PlainKernel} {done : Done} (ctx : Ctx) (s : ObjId) (number : CallNo) (w : Wait) (others : List Wait)
       → first_refusal (refusals named ctx (SigSem s)) ≡ None
       → take_first (is_on s) before.waits ≡ Some (w, others)
-      → after ≡ passed_on before w others
+      → after ≡ woken before w others
       → ((k : PlainKernel) → Does k done (record { kernel = k; answer = Now E_OK []; ends = end_of w ∷ []; gone = nobody; begun = nobody }))
       → Does after done (call named ctx (SigSem s) number)
   end_does {after} {done} ctx s number w others allowed first kernel tells =
       does_by (λ k. call k ctx (SigSem s) number) before named after done _ same
-      (signal_ends before ctx s number (w, others) rest (ap (λ k. first_refusal (refusals k ctx (SigSem s))) same ∙ allowed) first) kernel (tells (passed_on before w others))
+      (signal_ends before ctx s number (w, others) rest (ap (λ k. first_refusal (refusals k ctx (SigSem s))) same ∙ allowed) first) kernel (tells (woken before w others))
 
   -- a wait that takes a count
   pub take_does : {after : PlainKernel} {done : Done} (ctx : Ctx) (s : ObjId) (tmo : Tmo) (number : CallNo)
@@ -91,6 +130,13 @@ module _ {before named : PlainKernel} (same : before ≡ named) (rest : AtRest b
       → Does after done (call named ctx (TwaiSem s tmo) number)
   accept_does ctx s tmo number allowed none does =
       does_same (wait_accepts named ctx s tmo number (rests same rest) allowed (ap (λ (k : PlainKernel). ltb 0 (count_of (get k.semaphores s.0))) (sym same) ∙ le-ltb 0 (count_of (get before.semaphores s.0)) none)) does
+
+  -- a delay
+  pub delay_does : {after : PlainKernel} {done : Done} (ctx : Ctx) (ticks : ℕ) (number : CallNo)
+      → first_refusal (refusals named ctx (DlyTsk ticks)) ≡ None
+      → Does after done (waiting named (caller ctx) targets.Delay (timeouts.Ms ticks) number)
+      → Does after done (call named ctx (DlyTsk ticks) number)
+  delay_does ctx ticks number allowed does = does_same (delay_waits named ctx ticks number (rests same rest) allowed) does
 
   -- an exit
   pub exit_does : {after : PlainKernel} {done : Done} (ctx : Ctx) (number : CallNo)

@@ -1,13 +1,14 @@
 -- Each change of the tables keeps them good.
-use Rattle.std.proofs.Common.{◌≡◌, ℕ, ◌<◌, Bool, false, get_or, List, [], ◌∷◌, ◌++◌, length, Option, Some, None, refl, sym, ◌∙◌, arith}
+use Rattle.std.proofs.Common.{◌≡◌, ℕ, ◌<◌, false, List, [], ◌∷◌, ◌++◌, length, Option, Some, None, refl, ◌∙◌, arith}
 use Rattle.std.specs.List.{remove}
 use Rattle.std.proofs.lemmas.List.{length-append}
+use Rattle.std.proofs.lemmas.List.Edits.{length-remove}
 use Rattle.it_types.specs.declared.id.TaskId.{TaskId}
 use Rattle.it_types.specs.declared.id.ObjId.{ObjId}
 use Rattle.spec_lists.specs.Tables.{get, change}
 use Rattle.spec_lists.specs.First.{take_first}
 use Rattle.spec_lists.proofs.Changes.{length-change}
-use Rattle.spec_lists.proofs.Firsts.{found, none_append, none_from_parts, take_first-shorter}
+use Rattle.spec_lists.proofs.Firsts.{none_append, none_from_parts}
 use Rattle.spec_kernel.specs.declared.task.Task.{Task}
 use Rattle.spec_kernel.specs.declared.semaphore.Semaphore.{Semaphore}
 use Rattle.spec_kernel.specs.declared.wait.Wait.{Wait}
@@ -18,19 +19,11 @@ use Rattle.spec_kernel.specs.Semaphores.{count_of, is_full, one_less, one_more}
 use Rattle.spec_kernel.proofs.Readiness.{first_raised, none_lowered}
 use Rattle.spec_kernel.proofs.Leaving.{length-without_le, running_leaves}
 use Rattle.k_core.specs.Kept.{Kept}
+use Rattle.k_core.proofs.Places.{none_removed}
 
 there_unless_full : (o : Option Semaphore) → is_full o ≡ false → (m : Semaphore) × (o ≡ Some m)
 there_unless_full None e = cc
 there_unless_full (Some m) e = (m, refl)
-
--- a search over places, and the removal of what it found
-pub found_and_removed : (f : Wait → Bool) (waits slice others : List Wait) (i : ℕ) (w : Wait)
-    → slice ≡ waits
-    → (i < length slice) × ((w : Wait) → w ≡ get_or slice i w → take_first f slice ≡ Some (w, remove slice i))
-    → w ≡ get_or waits i w
-    → others ≡ remove waits i
-    → take_first f waits ≡ Some (w, others)
-found_and_removed f waits slice others i w e place at removed = rw (removed, sym e) (place.1 w (rw e at))
 
 module _ {tasks : List (Option Task)} {runnable : List TaskId} {semaphores : List (Option Semaphore)} {waits : List Wait} (kept : Kept tasks runnable semaphores waits) where
   kept_semaphores : {semaphores_after : List (Option Semaphore)} (i : ℕ) (f : Option Semaphore → Option Semaphore)
@@ -76,16 +69,17 @@ module _ {tasks : List (Option Task)} {runnable : List TaskId} {semaphores : Lis
       → Kept tasks runnable semaphores_after waits
   kept_taking s some e = kept_semaphores s.0 one_less e (none_lowered semaphores waits s kept.rest some)
 
-  -- the first call on a semaphore ends
-  pub kept_ending : {runnable_after : List TaskId} {waits_after : List Wait} (s : ObjId) (wait : Wait)
-      → take_first (is_on s) waits ≡ Some (wait, waits_after)
+  -- the call at a place ends
+  pub kept_waking : {runnable_after : List TaskId} {waits_after : List Wait} (i : ℕ) (wait : Wait)
+      → i < length waits
       → runnable_after ≡ runnable ++ wait.task ∷ []
+      → waits_after ≡ remove waits i
       → Kept tasks runnable_after semaphores waits_after
-  kept_ending {runnable_after} {waits_after} s wait first r = record {
+  kept_waking i wait inside r w = record {
     task_places = kept.task_places;
     semaphore_places = kept.semaphore_places;
-    room = rw (r, length-append) (omega (arith, kept.room, take_first-shorter (is_on s) waits (wait, waits_after) first));
-    rest = (found (is_on s) (is_ready semaphores) waits (wait, waits_after) kept.rest first).1;
+    room = rw (r, length-append, w) (omega (arith, kept.room, length-remove waits i inside));
+    rest = rw w (none_removed (is_ready semaphores) waits i wait inside kept.rest);
   }
 
   -- a task ends

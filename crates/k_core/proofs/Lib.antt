@@ -1,2 +1,5 @@
 pub mod Doing
 pub mod Keeping
+pub mod Places
+pub mod Scan
+pub mod Soonest

@@ -1,2 +1,4 @@
+pub mod ByTime
 pub mod Does
 pub mod Kept
+pub mod TimeOuts

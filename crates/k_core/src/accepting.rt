@@ -4,8 +4,9 @@ ghost use Rattle.spec_kernel.specs.Settle.{is_met};
 ghost use Rattle.spec_kernel.specs.Rows.{accepted, waiting};
 ghost use Rattle.k_core.specs.Does.{Does};
 
+use crate::deadlines::deadline_of;
 use crate::refusals::is_poll;
-use crate::waits::{deadline_of, take_out};
+use crate::waits::take_out;
 use crate::{Done, Kernel};
 use it_types::{CallNo, E_TMOUT, TaskId, Tmo};
 use spec_kernel::{Wait, WaitFor};
@@ -27,12 +28,24 @@ impl Kernel {
     }
 
     /// The running task waits under this number.
-    fn wait(&mut self, task: TaskId, target: WaitFor, tmo: Tmo, no: CallNo) -> Done
+    pub(crate) fn wait(&mut self, task: TaskId, target: WaitFor, tmo: Tmo, no: CallNo) -> Done
         requires runs { running self.old.tasks self.old.runnable ≡ task }
         requires some { task.0 ≢ 0 }
         requires unmet { is_met self.old.semaphores target ≡ false }
         requires counts { self.old.now < 2 ^ 60 }
         ensures { Does self.new result (waiting self.old task target tmo no) }
+    {
+        self.begin_wait(task, target, tmo, no);
+        Done::pending()
+    }
+
+    /// The running task is no longer runnable and the last of those that wait; no call waited with a higher number.
+    pub(crate) fn begin_wait(&mut self, task: TaskId, target: WaitFor, tmo: Tmo, no: CallNo)
+        requires runs { running self.old.tasks self.old.runnable ≡ task }
+        requires some { task.0 ≢ 0 }
+        requires unmet { is_met self.old.semaphores target ≡ false }
+        requires counts { self.old.now < 2 ^ 60 }
+        ensures { self.new ≡ (waiting self.old task target tmo no).kernel }
     {
         let deadline = deadline_of(self.ticks, tmo);
         self.last_call = no;
@@ -43,6 +56,5 @@ impl Kernel {
             target,
             deadline,
         });
-        Done::pending()
     }
 }

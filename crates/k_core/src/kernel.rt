@@ -81,6 +81,7 @@ impl Kernel {
     {
         match *req {
             KReq::ExtTsk => self.ext_tsk(ctx),
+            KReq::DlyTsk { ms } => self.dly_tsk(ctx, ms, no),
             KReq::SigSem { sem } => self.sig_sem(sem),
             KReq::TwaiSem { sem, tmo } => self.twai_sem(ctx, sem, tmo, no),
         }

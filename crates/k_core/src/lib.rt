@@ -1,15 +1,18 @@
-//! The running kernel: tasks, semaphores and the calls that wait, in tables that nothing allocates after the opening.
+//! The running kernel: tasks, semaphores, delays and the calls that wait, in tables that nothing allocates after the opening.
 #![tactic(auto)]
 
 mod accepting;
+mod deadlines;
 mod done;
 mod kernel;
 mod opening;
+mod outside;
 mod refusals;
 mod sem_calls;
 mod tables;
 mod task_calls;
 mod waits;
+mod waking;
 
 pub use done::Done;
 pub use kernel::Kernel;

@@ -1,4 +1,4 @@
-ghost use Rattle.std.specs.Prelude.{◌≡◌};
+ghost use Rattle.std.specs.Prelude.{◌≡◌, ℕ};
 ghost use Rattle.it_types.specs.declared.context.Ctx.{Ctx as ACtx};
 ghost use Rattle.it_types.specs.declared.kernel_request.KReq.{KReq};
 ghost use Rattle.spec_lists.specs.Refusal.{first_refusal};
@@ -55,6 +55,7 @@ impl Kernel {
     {
         match *req {
             KReq::ExtTsk => self.ext_tsk_refusal(ctx),
+            KReq::DlyTsk { .. } => self.dly_tsk_refusal(ctx),
             KReq::SigSem { sem } => self.sig_sem_refusal(sem),
             KReq::TwaiSem { sem, tmo } => self.twai_sem_refusal(ctx, sem, tmo),
         }
@@ -62,6 +63,14 @@ impl Kernel {
 
     fn ext_tsk_refusal(&self, ctx: Ctx) -> Option<Er>
         ensures code { result ≡ first_refusal (refusals self.now ctx KReq.ExtTsk) }
+        ensures rest { AtRest self.now }
+    {
+        let _ = &self.waits;
+        if is_handler(ctx) { Some(E_CTX) } else { None }
+    }
+
+    fn dly_tsk_refusal(&self, ctx: Ctx) -> Option<Er>
+        ensures code { (ticks : ℕ) → result ≡ first_refusal (refusals self.now ctx (KReq.DlyTsk ticks)) }
         ensures rest { AtRest self.now }
     {
         let _ = &self.waits;

@@ -24,8 +24,7 @@ impl Kernel {
     {
         match first_on(self.waits.as_slice(), sem) {
             Some(place) => {
-                let wait = self.waits.remove(place);
-                self.runnable.push(wait.task);
+                let wait = self.wake(place);
                 Done::ending(wait)
             }
             None => {

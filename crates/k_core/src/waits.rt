@@ -1,13 +1,13 @@
-ghost use Rattle.std.specs.Prelude.{◌≡◌, ℕ, ◌+◌, ◌<◌, ◌^◌, Some, None, MatchOption, slice_index_or, remove, length};
-ghost use Rattle.std.specs.List.{list_any};
-ghost use Rattle.spec_lists.specs.First.{take_first};
-ghost use Rattle.spec_kernel.specs.declared.wait.Wait.{Wait as AWait};
-ghost use Rattle.spec_kernel.specs.Rows.{is_on, deadline_of};
+ghost use Rattle.std.specs.Prelude.{◌≡◌};
+ghost use Rattle.std.specs.List.{list_any, position};
+ghost use Rattle.spec_kernel.specs.Deadlines.{is_outside};
+ghost use Rattle.spec_kernel.specs.Outside.{is_outside_of};
+ghost use Rattle.spec_kernel.specs.Rows.{is_on};
 ghost use Rattle.spec_kernel.specs.Tasks.{without};
 
 use crate::tables::MAX_TASKS;
 use arrayvec::ArrayVec;
-use it_types::{ObjId, TaskId, Tmo};
+use it_types::{ObjId, TaskId};
 use spec_kernel::{Wait, WaitFor};
 
 /// The call waits on this semaphore.
@@ -16,6 +16,7 @@ fn is_on(wait: &Wait, sem: ObjId) -> bool
 {
     match wait.target {
         WaitFor::Semaphore(on) => on == sem,
+        WaitFor::Delay | WaitFor::Outside => false,
     }
 }
 
@@ -28,27 +29,33 @@ pub(crate) fn is_awaited(waits: &[Wait], sem: ObjId) -> bool
 
 /// The place of the first call that waits on this semaphore.
 pub(crate) fn first_on(waits: &[Wait], sem: ObjId) -> Option<usize>
-    ensures { MatchOption result (take_first (is_on sem) waits.now ≡ None)
-        (λ i. (i < length waits.now)
-        × ((w : AWait) → w ≡ slice_index_or waits.now i w → take_first (is_on sem) waits.now ≡ Some (w, remove waits.now i))) }
+    ensures { result ≡ position (is_on sem) waits.now }
 {
-    for (i, wait) in waits.iter().enumerate() {
-        if is_on(wait, sem) {
-            return Some(i);
-        }
-    }
-    None
+    waits.iter().position(|wait| is_on(wait, sem))
 }
 
-/// The tick at which a call with this time-out ends, accepted at the tick `now`.
-pub(crate) fn deadline_of(now: u64, tmo: Tmo) -> Option<u64>
-    requires { now < 2 ^ 60 }
-    ensures { result ≡ deadline_of now tmo }
+/// The call is one of the network part.
+pub(crate) fn is_outside(target: WaitFor) -> bool
+    ensures { result ≡ is_outside target }
 {
-    match tmo {
-        Tmo::Ms(ticks) => Some(now + ticks as u64 + 1),
-        _ => None,
+    match target {
+        WaitFor::Outside => true,
+        WaitFor::Semaphore(_) | WaitFor::Delay => false,
     }
+}
+
+/// The task waits with this call, which is one of the network part.
+fn is_outside_of(wait: &Wait, task: TaskId) -> bool
+    ensures { result ≡ is_outside_of task wait.now }
+{
+    wait.task == task && is_outside(wait.target)
+}
+
+/// The place of the first call of the network part with which this task waits.
+pub(crate) fn first_outside_of(waits: &[Wait], task: TaskId) -> Option<usize>
+    ensures { result ≡ position (is_outside_of task) waits.now }
+{
+    waits.iter().position(|wait| is_outside_of(wait, task))
 }
 
 /// Takes a task out of the runnable ones.
