@@ -14,7 +14,7 @@ use Rattle.it_types.specs.Spelling.{timeout_text}
 use Rattle.spec_script.specs.declared.script_line.ScriptLine.{ScriptLine}
 use Rattle.spec_script.specs.declared.script_line.ScriptLine.TheVariants.{Itron, Link, Ticks, FirstNode, SecondNode, Sem, Task, Call, End}
 use Rattle.spec_script.specs.Lines.{line_text, node_text, ended}
-use Rattle.spec_script.specs.Ranges.{within, is_at_most, is_node_in_range, is_in_range, is_written_timeout, is_written_call}
+use Rattle.spec_script.specs.Ranges.{within, is_at_most, is_node_in_range, is_in_range, greatest_time, is_written_timeout, is_written_call}
 use Rattle.spec_script.specs.Text.{onto_first, split_lines}
 use Rattle.s_script.proofs.Fronts.{is_no_lf}
 use Rattle.s_script.proofs.Numerals.{decimal_digits}
@@ -141,16 +141,21 @@ task_plain id pri range =
     in_bounds 1 pri 16 bounds.1 λ p f y.
     rw (e, f) (then_plain i (codes " " ++ (decimal p ++ codes " act")) (omega arith) (then_plain p (codes " act") (omega arith) refl))
 
--- pol and fevr
+-- a number of ticks
+ticks_plain : (ticks : ℕ) → leb ticks greatest_time ≡ true → is_plain (decimal ticks) ≡ true
+ticks_plain ticks range = number_plain ticks (omega (arith, leb-true ticks greatest_time range))
+
+-- pol, fevr or a number
 timeout_plain : (tmo : Tmo) → is_written_timeout tmo ≡ true → is_plain (timeout_text tmo) ≡ true
 timeout_plain timeouts.Pol e = refl
 timeout_plain timeouts.Nblk e = refl
 timeout_plain timeouts.Fevr e = refl
-timeout_plain (timeouts.Ms ticks) e = absurd (let none : false ≡ true = e in cc)
+timeout_plain (timeouts.Ms ticks) e = ticks_plain ticks (and_parts (leb 1 ticks) (leb ticks greatest_time) e).1
 
 -- a call that can be written
 call_plain : (request : Req) → is_written_call request ≡ true → is_plain (line_text (Call request true)) ≡ true
 call_plain requests.ExtTsk written = refl
+call_plain (requests.DlyTsk ticks) written = ticks_plain ticks written
 call_plain (requests.SigSem sem) written = number_plain sem.0 (omega (arith, ltb-true sem.0 4294967296 written))
 call_plain (requests.TwaiSem sem tmo) written =
     let parts = and_parts (ltb sem.0 4294967296) (is_written_timeout tmo) written in

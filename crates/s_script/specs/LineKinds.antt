@@ -1,5 +1,5 @@
 -- Which line bytes are read as: one definition for each kind of line, over the bytes after its first word.
-use Rattle.std.specs.Prelude.{ℕ, Bool, not, List, [], ◌∷◌, ◌++◌, Option, Some, None, is_some, unwrap_or, ◌==◌, if◌then◌else◌, codes, nat_eq}
+use Rattle.std.specs.Prelude.{ℕ, Bool, not, ◌&&◌, List, [], ◌∷◌, ◌++◌, Option, Some, None, is_some, unwrap_or, ◌==◌, if◌then◌else◌, codes, nat_eq}
 use Rattle.std.specs.Cmp.Lexicographic.{pointwise}
 use Rattle.it_types.specs.declared.request.Req.TheVariants as requests
 use Rattle.it_types.specs.declared.timeout.Tmo.{Tmo}
@@ -8,6 +8,7 @@ use Rattle.it_types.specs.declared.id.ObjId.{ObjId}
 use Rattle.spec_script.specs.declared.script_line.ScriptLine.{ScriptLine}
 use Rattle.spec_script.specs.declared.script_line.ScriptLine.TheVariants.{Itron, Link, Ticks, FirstNode, SecondNode, Sem, Task, Call, End}
 use Rattle.spec_script.specs.declared.script_line.NodeLine.{NodeLine}
+use Rattle.spec_script.specs.Ranges.{within, greatest_time, is_written_timeout}
 use Rattle.s_script.specs.Cursor.{◌>>=◌, or_else, after, at_end, split_while}
 use Rattle.s_script.specs.Numbers.{below, number_at, address_at}
 
@@ -19,9 +20,19 @@ timeout_word word timeout bytes = do
   rest ← after word bytes
   Some (timeout, rest)
 
--- the time-outs that a script can write: pol and fevr
+-- a number of ticks; one that hasn't 32 bits stands as 0
+abbrev pub ticks_of : Option ℕ → ℕ
+ticks_of ticks = unwrap_or (below 4294967296 ticks) 0
+
+-- the time-out of a number
+unfoldable pub timeout_number : List ℕ → Option (Tmo × List ℕ)
+timeout_number bytes = do
+  ticks ← number_at bytes
+  Some (timeouts.Ms (ticks_of ticks.0), ticks.1)
+
+-- the time-outs that a script can write: pol, fevr, and a number of ticks
 unfoldable pub timeout_at : List ℕ → Option (Tmo × List ℕ)
-timeout_at bytes = or_else (timeout_word (codes "pol") timeouts.Pol bytes) (timeout_word (codes "fevr") timeouts.Fevr bytes)
+timeout_at bytes = or_else (timeout_word (codes "pol") timeouts.Pol bytes) (or_else (timeout_word (codes "fevr") timeouts.Fevr bytes) (timeout_number bytes))
 
 -- an object's id; one that hasn't 32 bits stands as 0
 abbrev pub object_of : Option ℕ → ObjId
@@ -38,14 +49,21 @@ sig_sem_line bytes = do
   sem ← number_at rest
   at_end sem.1 (Call (requests.SigSem (object_of sem.0)) (is_object sem.0))
 
--- twai_sem ID TMO
+-- twai_sem ID TMO; a number of ticks that hasn't 32 bits stands as 0, which is in no range of time-outs
 unfoldable pub twai_sem_line : List ℕ → Option ScriptLine
 twai_sem_line bytes = do
   rest ← after (codes " ") bytes
   sem ← number_at rest
   rest ← after (codes " ") sem.1
   timeout ← timeout_at rest
-  at_end timeout.1 (Call (requests.TwaiSem (object_of sem.0) timeout.0) (is_object sem.0))
+  at_end timeout.1 (Call (requests.TwaiSem (object_of sem.0) timeout.0) (is_object sem.0 && is_written_timeout timeout.0))
+
+-- dly_tsk MS
+unfoldable pub dly_tsk_line : List ℕ → Option ScriptLine
+dly_tsk_line bytes = do
+  rest ← after (codes " ") bytes
+  ticks ← number_at rest
+  at_end ticks.1 (Call (requests.DlyTsk (ticks_of ticks.0)) (within 0 ticks.0 greatest_time))
 
 -- ---- the other lines
 
@@ -134,7 +152,7 @@ abbrev pub Kinds : Type 0
 Kinds = List (List ℕ × (List ℕ → Option ScriptLine))
 
 abbrev pub call_kinds : Kinds
-call_kinds = (codes "sig_sem", sig_sem_line) ∷ (codes "twai_sem", twai_sem_line) ∷ []
+call_kinds = (codes "sig_sem", sig_sem_line) ∷ (codes "twai_sem", twai_sem_line) ∷ (codes "dly_tsk", dly_tsk_line) ∷ []
 
 abbrev pub other_kinds : Kinds
 other_kinds =
