@@ -1,0 +1,144 @@
+-- The laws of the one's complement sum: it is the whole sum, folded, so neither the order of the words nor the moment of
+-- folding matters.
+use Rattle.std.proofs.Common.{◌≡◌, ℕ, zero, suc, ◌+◌, ◌-◌, ◌*◌, ◌/◌, ◌%◌, ◌<◌, ◌≤◌, List, [], ◌∷◌, ◌++◌, length, sum, refl, sym, ap, ◌∙◌, arith, lit≤}
+use Rattle.std.specs.Prelude.{IsPermutation}
+use Rattle.std.proofs.lemmas.List.Sorted.{sum_by-IsPermutation}
+use Rattle.std.proofs.lemmas.List.Sums.{sum_by-cons, sum_by-append}
+use Rattle.spec_wire.specs.Octets.{AreOctets}
+use Rattle.spec_wire.specs.Sum.{words, end_around, ones_sum, ones_complement, folded}
+
+-- each number is a word
+abbrev pub AreWords : List ℕ → Type 0
+AreWords [] = Unit {0}
+AreWords (w ∷ ws) = (w ≤ 65535) × AreWords ws
+
+folded_lem : (n : ℕ) → folded n ≡ n - (n - 1) / 65535 * 65535
+unfolding folded
+folded_lem zero = refl
+folded_lem (suc n) = omega arith
+
+-- adding a word end around, and folding after adding it
+pub end_around-folded : (w n : ℕ) → w ≤ 65535 → end_around w (folded n) ≡ folded (w + n)
+end_around-folded w n h = omega (arith, folded_lem n, folded_lem (w + n))
+
+pub folded_small : (n : ℕ) → n ≤ 65535 → folded n ≡ n
+folded_small n h = omega (arith, folded_lem n)
+
+-- one step of folding in a wide register
+pub folded_step : (n : ℕ) → folded (n % 65536 + n / 65536) ≡ folded n
+folded_step n = omega (arith, folded_lem n, folded_lem (n % 65536 + n / 65536))
+
+pub folded_bound : (n : ℕ) → folded n ≤ 65535
+folded_bound n = omega (arith, folded_lem n)
+
+-- the complement of a sum that isn't 0 makes it all ones
+pub folded_complemented : (n : ℕ) → 0 < n → folded (n + ones_complement (folded n)) ≡ 65535
+folded_complemented n h = omega (arith, folded_lem n, folded_lem (n + (65535 - folded n)))
+
+-- the one's complement sum is the whole sum, folded
+pub ones_sum-folded : (ws : List ℕ) → AreWords ws → ones_sum ws ≡ folded (sum ws)
+unfolding ones_sum folded
+ones_sum-folded [] h = refl
+ones_sum-folded (w ∷ ws) h =
+    ap (end_around w) (ones_sum-folded ws h.1) ∙ end_around-folded w (sum ws) h.0 ∙ ap folded (sym (sum_by-cons (λ x. x) w ws))
+
+-- the order of the words does not matter, nor where a list of them is cut
+pub ones_sum-append : (xs ys : List ℕ) → AreWords xs → AreWords ys → ones_sum (xs ++ ys) ≡ end_around (ones_sum xs) (ones_sum ys)
+unfolding ones_sum
+ones_sum-append [] ys hx hy = let below = folded_bound (sum ys) in let same = ones_sum-folded ys hy in omega arith
+ones_sum-append (x ∷ xs) ys hx hy =
+    let rest = ones_sum-append xs ys hx.1 hy in
+    let a = ones_sum-folded xs hx.1 in
+    let b = ones_sum-folded ys hy in
+    omega (arith, folded_bound (sum xs), folded_bound (sum ys), rest)
+
+pub tail_octets : (b : ℕ) (bytes : List ℕ) → AreOctets (b ∷ bytes) → AreOctets bytes
+tail_octets b bytes octets i = octets (suc i)
+
+-- octets make words
+pub words_fit : (bytes : List ℕ) → AreOctets bytes → AreWords (words bytes)
+words_fit [] octets = tt
+words_fit (high ∷ []) octets = (omega (arith, octets 0), tt)
+words_fit (high ∷ low ∷ bytes) octets = (omega (arith, octets 0, octets 1), words_fit bytes (λ i. octets (suc (suc i))))
+
+-- the sum of the bytes as words, by the sum in a wide register
+pub ones_sum-words : (bytes : List ℕ) → AreOctets bytes → ones_sum (words bytes) ≡ folded (sum (words bytes))
+ones_sum-words bytes octets = ones_sum-folded (words bytes) (words_fit bytes octets)
+
+pub words-append_fit : (xs ys : List ℕ) → AreWords xs → AreWords ys → AreWords (xs ++ ys)
+words-append_fit [] ys hx hy = hy
+words-append_fit (x ∷ xs) ys hx hy = (hx.0, words-append_fit xs ys hx.1 hy)
+
+-- with the complement of the sum in a word that was 0, the sum is all ones
+pub ones_sum-checksum : (front back : List ℕ)
+    → AreWords front
+    → AreWords back
+    → 0 < sum front + sum back
+    → ones_sum (front ++ ones_complement (ones_sum (front ++ 0 ∷ back)) ∷ back) ≡ 65535
+ones_sum-checksum front back hf hb some =
+    let n : ℕ = sum front + sum back in
+    let s : ℕ = ones_sum (front ++ 0 ∷ back) in
+    let with_word : (w : ℕ) → w ≤ 65535 → ones_sum (front ++ w ∷ back) ≡ folded (n + w) = λ w h.
+    ones_sum-folded (front ++ w ∷ back) (words-append_fit front (w ∷ back) hf (h, hb))
+    ∙ ap folded (omega (arith, sum_by-append (λ x. x) front (w ∷ back), sum_by-cons (λ x. x) w back)) in
+    let plain : s ≡ folded n = with_word 0 (omega arith) ∙ ap folded (omega arith) in
+    let word : 65535 - s ≤ 65535 = omega arith in
+    with_word (ones_complement s) word ∙ ap (λ (t : ℕ). folded (n + ones_complement t)) plain ∙ folded_complemented n some
+
+-- the order of the words does not matter
+pub ones_sum_any_order : (xs ys : List ℕ) → IsPermutation xs ys → AreWords xs → AreWords ys → ones_sum xs ≡ ones_sum ys
+ones_sum_any_order xs ys same hx hy =
+    ones_sum-folded xs hx ∙ ap folded (sym (sum_by-IsPermutation (λ x. x) xs ys same)) ∙ sym (ones_sum-folded ys hy)
+
+-- the words of an even number of octets, and of more behind them
+pub words-append : (n : ℕ) (xs ys : List ℕ) → length xs ≡ n + n → words (xs ++ ys) ≡ words xs ++ words ys
+words-append n [] ys even = refl
+words-append n (x ∷ []) ys even = absurd (omega arith)
+words-append zero (x ∷ y ∷ xs) ys even = absurd (omega arith)
+words-append (suc n) (x ∷ y ∷ xs) ys even = ap (λ ws. (x * 256 + y) ∷ ws) (words-append n xs ys (omega arith))
+
+-- the sum of words, with one more between them
+ones_sum-between : (front back : List ℕ) (w : ℕ)
+    → AreWords front
+    → AreWords back
+    → w ≤ 65535
+    → ones_sum (front ++ w ∷ back) ≡ folded (sum front + sum back + w)
+ones_sum-between front back w hf hb h =
+    ones_sum-folded (front ++ w ∷ back) (words-append_fit front (w ∷ back) hf (h, hb))
+    ∙ ap folded (omega (arith, sum_by-append (λ x. x) front (w ∷ back), sum_by-cons (λ x. x) w back))
+
+-- all ones stand for 0 in a sum that isn't 0
+pub ones_sum-either_zero : (front back : List ℕ)
+    → AreWords front
+    → AreWords back
+    → 0 < sum front + sum back
+    → ones_sum (front ++ 65535 ∷ back) ≡ ones_sum (front ++ 0 ∷ back)
+ones_sum-either_zero front back hf hb some =
+    let n : ℕ = sum front + sum back in
+    let same : folded (n + 65535) ≡ folded (n + 0) = omega (arith, folded_lem (n + 65535), folded_lem (n + 0)) in
+    ones_sum-between front back 65535 hf hb (lit≤ tt) ∙ same ∙ sym (ones_sum-between front back 0 hf hb (omega arith))
+
+-- the sum of octets as words, in a wide register
+pub words_bound : (bytes : List ℕ) → AreOctets bytes → 2 * sum (words bytes) ≤ 65535 * (length bytes + 1)
+words_bound [] octets = omega arith
+words_bound (high ∷ []) octets = omega (arith, octets 0, sum_by-cons (λ x. x) (high * 256) [])
+words_bound (high ∷ low ∷ bytes) octets =
+    omega (arith, octets 0, octets 1, sum_by-cons (λ x. x) (high * 256 + low) (words bytes), words_bound bytes (λ i. octets (suc (suc i))))
+
+-- the sum over three parts, of which the first two have an even number of octets, by their sums in a wide register
+pub ones_sum-parts : (n m : ℕ) (front mid back : List ℕ)
+    → AreOctets front
+    → AreOctets mid
+    → AreOctets back
+    → length front ≡ n + n
+    → length mid ≡ m + m
+    → ones_sum (words (front ++ (mid ++ back))) ≡ folded (sum (words front) + sum (words mid) + sum (words back))
+ones_sum-parts n m front mid back hf hm hb even_front even_mid =
+    let parted : words (front ++ (mid ++ back)) ≡ words front ++ (words mid ++ words back) =
+    words-append n front (mid ++ back) even_front ∙ ap (λ ws. words front ++ ws) (words-append m mid back even_mid) in
+    let after : AreWords (words mid ++ words back) = words-append_fit (words mid) (words back) (words_fit mid hm) (words_fit back hb) in
+    let whole : AreWords (words front ++ (words mid ++ words back)) =
+    words-append_fit (words front) (words mid ++ words back) (words_fit front hf) after in
+    ap ones_sum parted
+    ∙ ones_sum-folded (words front ++ (words mid ++ words back)) whole
+    ∙ ap folded (omega (arith, sum_by-append (λ x. x) (words front) (words mid ++ words back), sum_by-append (λ x. x) (words mid) (words back)))
