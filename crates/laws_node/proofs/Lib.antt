@@ -1,0 +1,10 @@
+pub mod Rest
+pub mod Times
+pub mod NetMoves
+pub mod KernelMoves
+pub mod Waking
+pub mod Agreeing
+pub mod Keeping
+pub mod Kept
+pub mod Holders
+pub mod Along

@@ -1,0 +1,19 @@
+-- A node at rest: no call that waits is ready, in its kernel or in its network part, and none has a deadline at or before
+-- now. It is this project's own.
+use Rattle.std.specs.Prelude.{List, [], ◌∷◌}
+use Rattle.spec_kernel.specs.Settle.{AtRest}
+use Rattle.spec_kernel.specs.Deadlines.{NoneIsPast}
+use Rattle.spec_net.specs.NetSettle.{NetAtRest}
+use Rattle.spec_node.specs.declared.event.NodeEvent.{NodeEvent}
+use Rattle.spec_node.specs.PlainNode.{PlainNode}
+use Rattle.spec_node.specs.NodeStep.{node_step}
+
+pub record NodeRests (n : PlainNode) : Type 0 where
+  pub none_ready : AtRest n.kernel
+  pub none_past : NoneIsPast n.kernel
+  pub none_ready_in_net : NetAtRest n.net
+
+-- the node is at rest after each of the events
+abbrev pub RestsAlong : PlainNode → List NodeEvent → Type 0
+RestsAlong n [] = Unit {0}
+RestsAlong n (event ∷ events) = NodeRests (node_step n event).0 × RestsAlong (node_step n event).0 events

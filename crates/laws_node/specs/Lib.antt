@@ -1,0 +1,3 @@
+pub mod AtRest
+pub mod Agreement
+pub mod EndPoints

@@ -1,0 +1,13 @@
+//! Laws of the specification of one node with its kernel and its network part, over every list of events. Each is the
+//! contract of a function without a body of its own.
+#![tactic(auto)]
+
+mod agreement;
+mod at_rest;
+mod end_points;
+mod free_port;
+
+pub use agreement::parts_of_a_node_agree;
+pub use at_rest::no_call_of_a_node_waits_too_long;
+pub use end_points::end_points_are_kept;
+pub use free_port::any_port_is_the_least_free;

@@ -1,0 +1,7 @@
+pub mod Settling
+pub mod Examples
+pub mod Refusals
+pub mod Datagrams
+pub mod RowCases
+pub mod ArrivalCases
+pub mod FreePorts

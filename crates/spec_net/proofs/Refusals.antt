@@ -1,0 +1,213 @@
+-- Each refusal of the UDP calls: alone, and with every later one that can hold beside it, so that the order is seen.
+use Rattle.std.proofs.Common.{◌≡◌, ℕ, List, [], ◌∷◌, None, replicate, refl}
+use Rattle.std.specs.Prelude.{negsuc}
+use Rattle.it_types.specs.declared.id.EndPt.{EndPt}
+use Rattle.it_types.specs.declared.context.Ctx.TheVariants.{Handler}
+use Rattle.it_types.specs.declared.timeout.Tmo.TheVariants.{Pol, Nblk, Fevr}
+use Rattle.spec_lists.specs.Refusal.{first_refusal}
+use Rattle.spec_net.specs.PlainNet.{PlainNet}
+use Rattle.spec_net.specs.NetSettle.{settle, net_settled}
+use Rattle.spec_net.specs.UdpRows.{refusals, net_call}
+use Rattle.spec_net.proofs.Examples.{first_addr, second_addr, end_point, point, two_points, net_of, receiving, task_3, number, creates, sends, receives, answers}
+
+-- the ports 1000 and 1001 are taken, and nothing has come
+abbrev net : PlainNet
+net = net_of first_addr (two_points (point 1000 []) (point 1001 [])) []
+
+-- task 3 waits at end point 1
+abbrev waiting_net : PlainNet
+waiting_net = net_of first_addr (two_points (point 1000 []) (point 1001 [])) (receiving 9 1 5 ∷ [])
+
+abbrev peer : EndPt
+peer = end_point second_addr 2000
+
+-- more data than a datagram may have
+abbrev too_long : List ℕ
+too_long = replicate 1473 0
+
+-- ---- `udp_cre_cep`
+
+pub create_context : net_call net Handler (creates 3 1002 0) (number 7) ≡ answers net (negsuc 24) []
+unfolding net_call net_settled settle
+create_context = refl
+
+pub create_context_first : net_call net Handler (creates 1 1001 5) (number 7) ≡ answers net (negsuc 24) []
+unfolding net_call net_settled settle
+create_context_first = refl
+
+pub create_context_before_id : net_call net Handler (creates 0 1001 5) (number 7) ≡ answers net (negsuc 24) []
+unfolding net_call net_settled settle
+create_context_before_id = refl
+
+pub create_id_zero : net_call net task_3 (creates 0 1002 0) (number 7) ≡ answers net (negsuc 17) []
+unfolding net_call net_settled settle
+create_id_zero = refl
+
+pub create_id_above : net_call net task_3 (creates 17 1002 0) (number 7) ≡ answers net (negsuc 17) []
+unfolding net_call net_settled settle
+create_id_above = refl
+
+pub create_id_first : net_call net task_3 (creates 17 1001 5) (number 7) ≡ answers net (negsuc 17) []
+unfolding net_call net_settled settle
+create_id_first = refl
+
+pub create_exists : net_call net task_3 (creates 1 1002 0) (number 7) ≡ answers net (negsuc 40) []
+unfolding net_call net_settled settle
+create_exists = refl
+
+pub create_exists_first : net_call net task_3 (creates 1 1001 5) (number 7) ≡ answers net (negsuc 40) []
+unfolding net_call net_settled settle
+create_exists_first = refl
+
+pub create_port : net_call net task_3 (creates 3 1001 0) (number 7) ≡ answers net (negsuc 16) []
+unfolding net_call net_settled settle
+create_port = refl
+
+pub create_port_first : net_call net task_3 (creates 3 1001 5) (number 7) ≡ answers net (negsuc 16) []
+unfolding net_call net_settled settle
+create_port_first = refl
+
+pub create_routine : net_call net task_3 (creates 3 1002 5) (number 7) ≡ answers net (negsuc 16) []
+unfolding net_call net_settled settle
+create_routine = refl
+
+-- ---- `udp_snd_dat`
+
+pub send_context : net_call net Handler (sends 1 peer (7 ∷ []) Fevr) (number 7) ≡ answers net (negsuc 24) []
+unfolding net_call net_settled settle
+send_context = refl
+
+pub send_context_first : net_call net Handler (sends 0 (end_point first_addr 0) too_long Nblk) (number 7) ≡ answers net (negsuc 24) []
+unfolding net_call net_settled settle
+send_context_first = refl
+
+pub send_id_zero : net_call net task_3 (sends 0 peer (7 ∷ []) Fevr) (number 7) ≡ answers net (negsuc 17) []
+unfolding net_call net_settled settle
+send_id_zero = refl
+
+pub send_id_above : net_call net task_3 (sends 17 peer (7 ∷ []) Fevr) (number 7) ≡ answers net (negsuc 17) []
+unfolding net_call net_settled settle
+send_id_above = refl
+
+pub send_id_first : net_call net task_3 (sends 17 (end_point first_addr 0) too_long Nblk) (number 7) ≡ answers net (negsuc 17) []
+unfolding net_call net_settled settle
+send_id_first = refl
+
+pub send_no_point : net_call net task_3 (sends 3 peer (7 ∷ []) Fevr) (number 7) ≡ answers net (negsuc 41) []
+unfolding net_call net_settled settle
+send_no_point = refl
+
+pub send_no_point_first : net_call net task_3 (sends 3 (end_point first_addr 0) too_long Nblk) (number 7) ≡ answers net (negsuc 41) []
+unfolding net_call net_settled settle
+send_no_point_first = refl
+
+pub send_own_address : net_call net task_3 (sends 1 (end_point first_addr 2000) (7 ∷ []) Fevr) (number 7) ≡ answers net (negsuc 16) []
+unfolding net_call net_settled settle
+send_own_address = refl
+
+pub send_own_address_first : net_call net task_3 (sends 1 (end_point first_addr 0) too_long Nblk) (number 7) ≡ answers net (negsuc 16) []
+unfolding net_call net_settled settle
+send_own_address_first = refl
+
+pub send_no_address : net_call net task_3 (sends 1 (end_point 0 2000) (7 ∷ []) Fevr) (number 7) ≡ answers net (negsuc 16) []
+unfolding net_call net_settled settle
+send_no_address = refl
+
+pub send_no_address_first : net_call net task_3 (sends 1 (end_point 0 0) too_long Nblk) (number 7) ≡ answers net (negsuc 16) []
+unfolding net_call net_settled settle
+send_no_address_first = refl
+
+pub send_no_port : net_call net task_3 (sends 1 (end_point second_addr 0) (7 ∷ []) Fevr) (number 7) ≡ answers net (negsuc 16) []
+unfolding net_call net_settled settle
+send_no_port = refl
+
+pub send_no_port_first : net_call net task_3 (sends 1 (end_point second_addr 0) too_long Nblk) (number 7) ≡ answers net (negsuc 16) []
+unfolding net_call net_settled settle
+send_no_port_first = refl
+
+pub send_too_long : net_call net task_3 (sends 1 peer too_long Fevr) (number 7) ≡ answers net (negsuc 16) []
+unfolding net_call net_settled settle
+send_too_long = refl
+
+pub send_too_long_first : net_call net task_3 (sends 1 peer too_long Nblk) (number 7) ≡ answers net (negsuc 16) []
+unfolding net_call net_settled settle
+send_too_long_first = refl
+
+pub send_untold : net_call net task_3 (sends 1 peer (7 ∷ []) Nblk) (number 7) ≡ answers net (negsuc 16) []
+unfolding net_call net_settled settle
+send_untold = refl
+
+-- data of the greatest length is not refused, and an empty datagram isn't
+pub send_longest : first_refusal (refusals net task_3 (sends 1 peer (replicate 1472 0) Fevr)) ≡ None
+send_longest = refl
+
+pub send_empty : first_refusal (refusals net task_3 (sends 1 peer [] Pol)) ≡ None
+send_empty = refl
+
+-- ---- `udp_rcv_dat`
+
+pub receive_context : net_call net Handler (receives 1 5 Fevr) (number 7) ≡ answers net (negsuc 24) []
+unfolding net_call net_settled settle
+receive_context = refl
+
+pub receive_context_first : net_call waiting_net Handler (receives 1 65281 Nblk) (number 7) ≡ answers waiting_net (negsuc 24) []
+unfolding net_call net_settled settle
+receive_context_first = refl
+
+pub receive_context_before_id : net_call waiting_net Handler (receives 0 65281 Nblk) (number 7) ≡ answers waiting_net (negsuc 24) []
+unfolding net_call net_settled settle
+receive_context_before_id = refl
+
+pub receive_id_zero : net_call net task_3 (receives 0 5 Fevr) (number 7) ≡ answers net (negsuc 17) []
+unfolding net_call net_settled settle
+receive_id_zero = refl
+
+pub receive_id_above : net_call net task_3 (receives 17 5 Fevr) (number 7) ≡ answers net (negsuc 17) []
+unfolding net_call net_settled settle
+receive_id_above = refl
+
+pub receive_id_in_handler : net_call net Handler (receives 17 5 Pol) (number 7) ≡ answers net (negsuc 17) []
+unfolding net_call net_settled settle
+receive_id_in_handler = refl
+
+pub receive_id_first : net_call waiting_net task_3 (receives 17 65281 Nblk) (number 7) ≡ answers waiting_net (negsuc 17) []
+unfolding net_call net_settled settle
+receive_id_first = refl
+
+pub receive_no_point : net_call net task_3 (receives 3 5 Fevr) (number 7) ≡ answers net (negsuc 41) []
+unfolding net_call net_settled settle
+receive_no_point = refl
+
+pub receive_no_point_first : net_call waiting_net task_3 (receives 3 65281 Nblk) (number 7) ≡ answers waiting_net (negsuc 41) []
+unfolding net_call net_settled settle
+receive_no_point_first = refl
+
+pub receive_too_long : net_call net task_3 (receives 1 65281 Fevr) (number 7) ≡ answers net (negsuc 16) []
+unfolding net_call net_settled settle
+receive_too_long = refl
+
+pub receive_too_long_first : net_call waiting_net task_3 (receives 1 65281 Nblk) (number 7) ≡ answers waiting_net (negsuc 16) []
+unfolding net_call net_settled settle
+receive_too_long_first = refl
+
+pub receive_untold : net_call net task_3 (receives 1 5 Nblk) (number 7) ≡ answers net (negsuc 16) []
+unfolding net_call net_settled settle
+receive_untold = refl
+
+pub receive_untold_first : net_call waiting_net task_3 (receives 1 5 Nblk) (number 7) ≡ answers waiting_net (negsuc 16) []
+unfolding net_call net_settled settle
+receive_untold_first = refl
+
+pub receive_twice : net_call waiting_net task_3 (receives 1 5 Fevr) (number 7) ≡ answers waiting_net (negsuc 40) []
+unfolding net_call net_settled settle
+receive_twice = refl
+
+-- a receive of the greatest length is not refused, nor is a poll in a handler, nor one at an end point where no task waits
+pub receive_longest : first_refusal (refusals net task_3 (receives 1 65280 Fevr)) ≡ None
+receive_longest = refl
+
+pub receive_in_handler : first_refusal (refusals net Handler (receives 1 5 Pol)) ≡ None
+receive_in_handler = refl
+
+pub receive_beside : first_refusal (refusals waiting_net task_3 (receives 2 5 Fevr)) ≡ None
+receive_beside = refl

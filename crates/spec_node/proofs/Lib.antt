@@ -1,0 +1,4 @@
+pub mod Progressing
+pub mod Examples
+pub mod Exchange
+pub mod Deadlines

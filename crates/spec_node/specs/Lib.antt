@@ -1,0 +1,4 @@
+pub mod PlainNode
+pub mod Progress
+pub mod NodeStep
+pub mod Admitted

@@ -1,0 +1,137 @@
+-- The step of an event at a node. It is this project's own; the rows are those of the kernel and of the network part.
+use Rattle.std.specs.Prelude.{ℕ, ◌+◌, List, [], ◌∷◌, ◌++◌, map, Option, Some, None, ◌==◌, if◌then◌else◌, slice_set}
+use Rattle.it_types.specs.declared.id.TaskId.{TaskId}
+use Rattle.it_types.specs.declared.id.CallNo.{CallNo}
+use Rattle.it_types.specs.declared.context.Ctx.{Ctx}
+use Rattle.it_types.specs.declared.kernel_request.KReq.{KReq}
+use Rattle.it_types.specs.declared.network_request.NReq.{NReq}
+use Rattle.it_types.specs.declared.answer.Ans.{Ans}
+use Rattle.it_types.specs.declared.answer.Ans.TheVariants as answers
+use Rattle.it_types.specs.declared.mark.Mark.{Mark}
+use Rattle.it_types.specs.declared.mark.Mark.TheVariants as marks
+use Rattle.it_types.specs.declared.entry.CallEnd.{CallEnd}
+use Rattle.spec_lists.specs.Tables.{get}
+use Rattle.spec_kernel.specs.declared.outcome.KAns.{KAns}
+use Rattle.spec_kernel.specs.declared.outcome.KAns.TheVariants as kernel_answers
+use Rattle.spec_kernel.specs.PlainKernel.{PlainKernel, nobody}
+use Rattle.spec_kernel.specs.Rows.{call, tick}
+use Rattle.spec_kernel.specs.Outside.{blocked}
+use Rattle.spec_net.specs.declared.outcome.NetAnswer.{NetAnswer}
+use Rattle.spec_net.specs.declared.outcome.NetAnswer.TheVariants as net_answers
+use Rattle.spec_net.specs.Callers.{caller, timeout_of}
+use Rattle.spec_net.specs.UdpRows.{net_call}
+use Rattle.spec_net.specs.Arrival.{arrive}
+use Rattle.spec_node.specs.declared.held.Held.{Held}
+use Rattle.spec_node.specs.declared.event.NodeRequest.{NodeRequest}
+use Rattle.spec_node.specs.declared.event.NodeRequest.TheVariants.{Kernel, Network}
+use Rattle.spec_node.specs.declared.event.NodeEvent.{NodeEvent}
+use Rattle.spec_node.specs.declared.event.NodeEvent.TheVariants.{Call, Return, Tick, Arrive}
+use Rattle.spec_node.specs.PlainNode.{PlainNode, Out, running_in}
+use Rattle.spec_node.specs.Progress.{TaskEnd, Progress, after_net, after_kernel, timed_out}
+
+-- ---- answers, ends and marks
+
+-- a call that waits has its number in the answer
+abbrev pub kernel_answer : ℕ → KAns → Ans
+kernel_answer number (kernel_answers.Now code bytes) = answers.Now code bytes
+kernel_answer number kernel_answers.Pends = answers.Pends (record { 0 = number })
+kernel_answer number kernel_answers.Quiet = answers.Quiet
+
+abbrev pub net_answer : ℕ → NetAnswer → Ans
+net_answer number (net_answers.Now code bytes) = answers.Now code bytes
+net_answer number net_answers.Pends = answers.Pends (record { 0 = number })
+net_answer number net_answers.Quiet = answers.Quiet
+
+-- how many numbers an answer draws
+abbrev pub drawn : Ans → ℕ
+drawn (answers.Pends number) = 1
+drawn _ = 0
+
+abbrev pub call_end : TaskEnd → CallEnd
+call_end e = record { call = e.call; code = e.code; bytes = e.bytes }
+
+-- the answers that are held after the ends
+abbrev pub holding : List TaskEnd → List (Option Held) → List (Option Held)
+holding [] held = held
+holding (e ∷ es) held = holding es (slice_set held e.task.0 (Some (record { code = e.code; bytes = e.bytes })))
+
+abbrev pub gone_marks : TaskId → List Mark
+gone_marks task = if task.0 == 0 then [] else marks.Gone task ∷ []
+
+abbrev pub begun_marks : TaskId → List Mark
+begun_marks task = if task.0 == 0 then [] else marks.Begun task ∷ []
+
+-- the mark of another running task
+abbrev pub run_marks : TaskId → TaskId → List Mark
+run_marks before after = if after.0 == before.0 then [] else marks.Run after ∷ []
+
+-- ---- what an event comes to
+
+-- at its beginning
+abbrev pub beginning : PlainNode → Progress
+beginning n = record { kernel = n.kernel; net = n.net; ends = []; packets = [] }
+
+abbrev pub node_after : PlainNode → Ans → Progress → PlainNode
+node_after n answer p = record { kernel = p.kernel; net = p.net; held = holding p.ends n.held; calls = n.calls + drawn answer }
+
+abbrev pub out_of : PlainNode → Ans → TaskId → TaskId → Progress → Out
+out_of n answer gone begun p = record {
+  answer = answer;
+  ends = map call_end p.ends;
+  marks = gone_marks gone ++ (begun_marks begun ++ run_marks (running_in n.kernel) (running_in p.kernel));
+  packets = p.packets;
+}
+
+-- the node after an event with this answer, and what it gives
+abbrev pub done : PlainNode → Ans → TaskId → TaskId → Progress → PlainNode × Out
+done n answer gone begun p = (node_after n answer p, out_of n answer gone begun p)
+
+-- ---- the events
+
+-- a call of the kernel: if it waits it gets the next number
+unfoldable pub kernel_called : PlainNode → Ctx → KReq → PlainNode × Out
+kernel_called n ctx request =
+    let o = call n.kernel ctx request (record { 0 = n.calls + 1 }) in
+    done n (kernel_answer (n.calls + 1) o.answer) o.gone o.begun (after_kernel (beginning n) o)
+
+-- a call of the network part that waits makes its task wait outside, under the call's number
+abbrev pub blocked_where : NetAnswer → PlainKernel → Ctx → NReq → CallNo → PlainKernel
+blocked_where net_answers.Pends k ctx request number = blocked k (caller ctx) (timeout_of request) number
+blocked_where _ k ctx request number = k
+
+-- a call of the network part: if it waits it gets the next number
+unfoldable pub network_called : PlainNode → Ctx → NReq → PlainNode × Out
+network_called n ctx request =
+    let o = net_call n.net ctx request (record { 0 = n.calls + 1 }) in
+    done n (net_answer (n.calls + 1) o.answer) nobody nobody (after_net (record (beginning n) { kernel = blocked_where o.answer n.kernel ctx request (record { 0 = n.calls + 1 }) }) o)
+
+-- a packet arrives
+unfoldable pub arrived : PlainNode → List ℕ → PlainNode × Out
+arrived n bytes = done n answers.Quiet nobody nobody (after_net (beginning n) (arrive n.net bytes))
+
+-- a tick of the node's clock, and then the ends of all calls whose deadline is past
+unfoldable pub ticked : PlainNode → PlainNode × Out
+ticked n = done n answers.Quiet nobody nobody (timed_out (after_kernel (beginning n) (tick n.kernel)))
+
+-- what a task returns with: the answer that it holds
+abbrev pub held_answer : Option Held → Ans
+held_answer (Some h) = answers.Now h.code h.bytes
+held_answer None = answers.Quiet
+
+-- a return: the task takes the answer that it holds
+unfoldable pub returned : PlainNode → TaskId → PlainNode × Out
+returned n task = (
+  record n { held = slice_set n.held task.0 None },
+  record { answer = held_answer (get n.held task.0); ends = []; marks = []; packets = [] },
+)
+
+abbrev pub called : PlainNode → Ctx → NodeRequest → PlainNode × Out
+called n ctx (Kernel request) = kernel_called n ctx request
+called n ctx (Network request) = network_called n ctx request
+
+-- the step of an event: the node after it, and what it gives
+unfoldable pub node_step : PlainNode → NodeEvent → PlainNode × Out
+node_step n (Call ctx request) = called n ctx request
+node_step n (Return task) = returned n task
+node_step n Tick = ticked n
+node_step n (Arrive bytes) = arrived n bytes

@@ -1,0 +1,41 @@
+-- One node: its kernel and its network part, the answers that its tasks have not taken yet, and the numbers of its calls. It
+-- is this project's own, as is what an event gives.
+use Rattle.std.specs.Prelude.{ℕ, Bool, List, Option, is_some}
+use Rattle.it_types.specs.declared.id.TaskId.{TaskId}
+use Rattle.it_types.specs.declared.conf.KConf.{KConf}
+use Rattle.it_types.specs.declared.answer.Ans.{Ans}
+use Rattle.it_types.specs.declared.mark.Mark.{Mark}
+use Rattle.it_types.specs.declared.entry.CallEnd.{CallEnd}
+use Rattle.spec_lists.specs.Tables.{get, empty_table}
+use Rattle.spec_kernel.specs.PlainKernel.{PlainKernel, greatest_id}
+use Rattle.spec_kernel.specs.Tasks.{running}
+use Rattle.spec_kernel.specs.Opening.{opened}
+use Rattle.spec_net.specs.PlainNet.{PlainNet, opened_net}
+use Rattle.spec_node.specs.declared.held.Held.{Held}
+
+pub record PlainNode : Type 0 where
+  pub kernel : PlainKernel
+  pub net : PlainNet
+  pub held : List (Option Held)  -- by task id
+  pub calls : ℕ  -- the call numbers drawn so far
+
+-- what an event gives beside the next node: its answer, the ends of calls, the marks, and the packets that go out
+pub record Out : Type 0 where
+  pub answer : Ans
+  pub ends : List CallEnd
+  pub marks : List Mark
+  pub packets : List (List ℕ)
+
+abbrev pub running_in : PlainKernel → TaskId
+running_in k = running k.tasks k.runnable
+
+-- the running task, or nobody
+abbrev pub running_task : PlainNode → TaskId
+running_task n = running_in n.kernel
+
+abbrev pub holds_answer : PlainNode → TaskId → Bool
+holds_answer n task = is_some (get n.held task.0)
+
+-- a node with these declarations and this address at its opening
+abbrev pub opened_node : KConf → ℕ → PlainNode
+opened_node conf addr = record { kernel = opened conf; net = opened_net addr; held = empty_table greatest_id; calls = 0 }
