@@ -1,0 +1,8 @@
+pub mod Calling
+pub mod Delivering
+pub mod Doing
+pub mod FreePorts
+pub mod FromWire
+pub mod Keeping
+pub mod Places
+pub mod Rising

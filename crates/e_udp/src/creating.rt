@@ -1,0 +1,39 @@
+ghost use Rattle.std.specs.Prelude.{◌≡◌, ◌≢◌, IfOk};
+ghost use Rattle.it_types.specs.declared.network_request.NReq.{NReq};
+ghost use Rattle.spec_net.specs.UdpRows.{net_call};
+ghost use Rattle.e_udp.specs.Contexts.{context_of};
+ghost use Rattle.e_udp.specs.Does.{Does};
+
+use crate::points::put;
+use crate::ports::port_for;
+use crate::{Out, Point, Udps};
+use it_types::{CallNo, CepId, E_OK, NoMemory, ObjId, TaskId};
+use std::alloc::Global;
+
+impl Udps {
+    /// Makes an end point with a local port, 0 for any that is free (ITRON TCP/IP API, `udp_cre_cep`). A refused call
+    /// changes nothing.
+    pub fn udp_cre_cep(
+        &mut self,
+        alloc: Global,
+        by: TaskId,
+        no: CallNo,
+        _now: u64,
+        cep: CepId,
+        port: u16,
+        cbr: ObjId,
+    ) -> Result<Out, NoMemory>
+        requires task { by.0 ≢ 0 }
+        ensures { IfOk result (λ o. Does self.new o (net_call self.old (context_of by) (NReq.UdpCreCep cep port cbr) no)) }
+    {
+        match self.cre_refusal(by, cep, port, cbr) {
+            Some(code) => Ok(Out::code(alloc, code)),
+            None => {
+                let port = port_for(&self.points, port);
+                let point = Point::open(alloc, port, cbr)?;
+                put(&mut self.points, cep, point);
+                Ok(Out::code(alloc, E_OK))
+            }
+        }
+    }
+}
