@@ -10,7 +10,9 @@ use Rattle.it_types.specs.declared.answer.Ans.TheVariants.{Quiet}
 use Rattle.it_types.specs.KernelPart.{kernel_part}
 use Rattle.spec_script.specs.declared.decl.Decl.{Decl}
 use Rattle.spec_kernel.specs.Rows.{call, tick, quiet, ticked}
+use Rattle.spec_kernel.specs.Deadlines.{timed_out}
 use Rattle.spec_kernel.proofs.Settling.{call-now, settled-now}
+use Rattle.spec_kernel.proofs.Timing.{timed_out-now}
 use Rattle.spec_world.specs.PlainNode.{PlainNode, plain_entry, running_task, is_pending, node_call, node_return, node_tick}
 use Rattle.spec_world.specs.PlainWorld.{holds_answer}
 use Rattle.spec_world.specs.Schedule.{Plan, PlainSide, PlainPlay, node_0, node_1, world_of, is_over, idle_event, runs, next, after}
@@ -35,9 +37,9 @@ return_within n id node task h = record { calls = omega (arith, h.calls); now = 
 
 tick_within : (n : ℕ) (id : NodeId) (node : PlainNode) → IsWithin n node → IsWithin (n + 1) (node_tick id node).0
 unfolding node_tick tick
-tick_within n id node h = let bound = one_at_most (is_pending (tick node.kernel).answer) in record {
+tick_within n id node h = let bound = one_at_most (is_pending (timed_out (tick node.kernel)).answer) in record {
   calls = omega (arith, h.calls);
-  now = omega (arith, h.now, settled-now (quiet (ticked node.kernel)));
+  now = omega (arith, h.now, timed_out-now (tick node.kernel), settled-now (quiet (ticked node.kernel)));
 }
 
 pub turn_within : (n : ℕ) (id : NodeId) (side : PlainSide) (decls : List Decl) (task : TaskId) → IsWithin n side.node → IsWithin (n + 1) (turn id side decls task).0.node
@@ -66,7 +68,7 @@ after_within n plan p h = elim (cases_Bool (runs p.first.node)) [
     idle_within n plan p h = elim (cases_Bool (is_over plan (world_of p))) [
       | inl t ↦ rw (idle_over plan p (plain_entry events.Stop Quiet) t refl) (within_more n (n + 1) p (omega arith) h)
       | inr t ↦ elim (cases_lt p.second.node.kernel.now p.first.node.kernel.now) [
-        | inl lt ↦ rw (idle_second plan p (side_tick node_1 p.second) t lt refl) (record { first = (within_more n (n + 1) p (omega arith) h).first; second = side_tick_within n node_1 p.second h.second })
-        | inr le ↦ rw (idle_first plan p (side_tick node_0 p.first) t le refl) (record { first = side_tick_within n node_0 p.first h.first; second = (within_more n (n + 1) p (omega arith) h).second })
+        | inl lt ↦ rw (idle_second plan p t lt) (record { first = (within_more n (n + 1) p (omega arith) h).first; second = side_tick_within n node_1 p.second h.second })
+        | inr le ↦ rw (idle_first plan p t le) (record { first = side_tick_within n node_0 p.first h.first; second = (within_more n (n + 1) p (omega arith) h).second })
       ]
     ]

@@ -82,27 +82,43 @@ step_second plan p task side (Ok entry) f some e t = ap (after plan p) (next_sec
 step_second plan p task side (Err error) f some e t = tt
 
 -- what an idle world does
-pub step_idle : (plan : Plan) (p : PlainPlay) (task : TaskId) (stepped : PlainPlay × Entry)
+pub step_idle : (plan : Plan) (p q : PlainPlay) (task : TaskId) (r : Result Entry NoMemory)
     → runs p.first.node ≡ false
     → task.0 ≡ 0
     → running_task p.second.node ≡ task
-    → after plan p (idle_event plan (world_of p)) ≡ stepped
-    → after plan p (next plan p) ≡ stepped
-step_idle plan p task stepped f n e t = ap (after plan p) (next_idle plan p f (idle_stands p.second.node task n e)) ∙ t
+    → IfOk r (λ e. after plan p (idle_event plan (world_of p)) ≡ (q, e))
+    → IfOk r (λ e. after plan p (next plan p) ≡ (q, e))
+step_idle plan p q task (Ok entry) f n e t = ap (after plan p) (next_idle plan p f (idle_stands p.second.node task n e)) ∙ t
+step_idle plan p q task (Err error) f n e t = tt
 
 pub idle_over : (plan : Plan) (p : PlainPlay) (entry : Entry) → is_over plan (world_of p) ≡ true → entry ≡ plain_entry events.Stop Quiet → after plan p (idle_event plan (world_of p)) ≡ (p, entry)
 idle_over plan p entry t e = ap (after plan p) (rw t refl) ∙ at_stop plan p ∙ ap (λ (x : Entry). (p, x)) (sym e)
 
-pub idle_first : (plan : Plan) (p : PlainPlay) (stepped : PlainSide × Entry)
+pub idle_first : (plan : Plan) (p : PlainPlay)
     → is_over plan (world_of p) ≡ false
     → p.first.node.kernel.now ≤ p.second.node.kernel.now
-    → side_tick node_0 p.first ≡ stepped
-    → after plan p (idle_event plan (world_of p)) ≡ with_first p stepped
-idle_first plan p stepped f le t = ap (after plan p) (rw (f, le-leb p.first.node.kernel.now p.second.node.kernel.now le) refl) ∙ first_tick plan p ∙ ap (with_first p) t
+    → after plan p (idle_event plan (world_of p)) ≡ with_first p (side_tick node_0 p.first)
+idle_first plan p f le = ap (after plan p) (rw (f, le-leb p.first.node.kernel.now p.second.node.kernel.now le) refl) ∙ first_tick plan p
 
-pub idle_second : (plan : Plan) (p : PlainPlay) (stepped : PlainSide × Entry)
+pub idle_second : (plan : Plan) (p : PlainPlay)
     → is_over plan (world_of p) ≡ false
     → p.second.node.kernel.now < p.first.node.kernel.now
-    → side_tick node_1 p.second ≡ stepped
-    → after plan p (idle_event plan (world_of p)) ≡ with_second p stepped
-idle_second plan p stepped f lt t = ap (after plan p) (rw (f, lt-leb p.first.node.kernel.now p.second.node.kernel.now lt) refl) ∙ second_tick plan p ∙ ap (with_second p) t
+    → after plan p (idle_event plan (world_of p)) ≡ with_second p (side_tick node_1 p.second)
+idle_second plan p f lt = ap (after plan p) (rw (f, lt-leb p.first.node.kernel.now p.second.node.kernel.now lt) refl) ∙ second_tick plan p
+
+-- a tick of node 0, and of node 1, that had memory
+pub first_ticks : (plan : Plan) (p : PlainPlay) (side : PlainSide) (r : Result Entry NoMemory)
+    → is_over plan (world_of p) ≡ false
+    → p.first.node.kernel.now ≤ p.second.node.kernel.now
+    → IfOk r (λ e. side_tick node_0 p.first ≡ (side, e))
+    → IfOk r (λ e. after plan p (idle_event plan (world_of p)) ≡ (record p { first = side }, e))
+first_ticks plan p side (Ok entry) f le t = idle_first plan p f le ∙ ap (with_first p) t
+first_ticks plan p side (Err error) f le t = tt
+
+pub second_ticks : (plan : Plan) (p : PlainPlay) (side : PlainSide) (r : Result Entry NoMemory)
+    → is_over plan (world_of p) ≡ false
+    → p.second.node.kernel.now < p.first.node.kernel.now
+    → IfOk r (λ e. side_tick node_1 p.second ≡ (side, e))
+    → IfOk r (λ e. after plan p (idle_event plan (world_of p)) ≡ (record p { second = side }, e))
+second_ticks plan p side (Ok entry) f lt t = idle_second plan p f lt ∙ ap (with_second p) t
+second_ticks plan p side (Err error) f lt t = tt

@@ -1,4 +1,5 @@
 pub mod Turn
+pub mod PastEnds
 pub mod Top
 pub mod Recorded
 pub mod Codes

@@ -1,5 +1,5 @@
 -- What a run of the program reads and writes.
-use Rattle.std.specs.Prelude.{ℕ, List, [], ◌∷◌, ◌++◌, Option, codes}
+use Rattle.std.specs.Prelude.{ℕ, ◌<◌, List, [], ◌∷◌, ◌++◌, Option, codes, length, take}
 use Rattle.std.specs.Io.KnownBytes.{Appends}
 use Rattle.it_io.specs.Input.{ReadToEnd}
 use Rattle.spec_script.specs.declared.script.Script.{Script}
@@ -7,10 +7,15 @@ use Rattle.spec_script.specs.Lines.{script_text}
 use Rattle.spec_script.specs.Text.{IsReadAs}
 use Rattle.spec_trace.specs.Trace.{trace_text}
 use Rattle.spec_world.specs.Schedule.{serial}
+use Rattle.laws_world.specs.AtRest.{HistoryRests}
 
 -- the words of the command that runs a script
 abbrev pub sim_words : List (List ℕ)
 sim_words = codes "sim" ∷ []
+
+-- the most bytes of an input
+abbrev pub input_limit : ℕ
+input_limit = 1048576
 
 -- what is written of a script: its printed form, the line trace, and its history
 abbrev pub output_of : Script → List ℕ
@@ -23,10 +28,23 @@ pub record ReadScript (left_before left_after : Option (List ℕ)) : Type 0 wher
   pub whole : ReadToEnd left_before left_after bytes
   pub read : IsReadAs bytes script
 
--- and the whole output of that script was written
+-- and the whole output of that script was written; in neither node a call that is ready waits after any entry of its
+-- history, nor one whose deadline is at or before now
 pub record RanScript (left_before left_after written_before written_after : Option (List ℕ)) : Type 0 where
   pub input : ReadScript left_before left_after
   pub wrote : Appends written_before written_after (output_of input.script)
+  pub rests : HistoryRests input.script
+
+-- these bytes were written from the first on, and not all of them
+pub record WrotePart (before after : Option (List ℕ)) (bytes : List ℕ) : Type 0 where
+  pub count : ℕ
+  pub part : count < length bytes
+  pub wrote : Appends before after (take count bytes)
+
+-- the input was read to its end, and is a script of whose output not all was written
+pub record RanPart (left_before left_after written_before written_after : Option (List ℕ)) : Type 0 where
+  pub input : ReadScript left_before left_after
+  pub wrote : WrotePart written_before written_after (output_of input.script)
 
 -- the input was read to its end, and is no script
 pub record ReadNoScript (left_before left_after : Option (List ℕ)) : Type 0 where

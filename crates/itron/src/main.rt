@@ -13,6 +13,7 @@ mod side;
 mod status;
 #[cfg(test)]
 mod tests;
+mod timing;
 mod top;
 mod words;
 

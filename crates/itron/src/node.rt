@@ -9,8 +9,9 @@ ghost use Rattle.spec_world.specs.Schedule.{opened_node, is_any_active};
 
 use crate::conf::conf_of;
 use crate::held::{held_answer, no_answers, plain_entry, take_answer};
-use crate::outcome::{calls_after, entry_of, hold};
-use it_types::{Ans, CallNo, Ctx, Entry, Event, NoMemory, NodeId, Req, TaskId};
+use crate::outcome::{calls_after, entry_of, hold, tick_entry};
+use crate::timing::end_past;
+use it_types::{CallNo, Ctx, Entry, Event, NoMemory, NodeId, Req, TaskId};
 use k_core::Kernel;
 use spec_script::Decl;
 use spec_world::Held;
@@ -114,12 +115,16 @@ impl Node {
         plain_entry(alloc, Event::Return(id, task), held_answer(held))
     }
 
-    /// A tick of the node's clock.
-    pub fn tick(&mut self, alloc: Global, id: NodeId) -> Entry
+    /// A tick of the node's clock, and the ends of all calls whose deadline is at or before it. Without memory the node
+    /// is not used again.
+    pub fn tick(&mut self, alloc: Global, id: NodeId) -> Result<Entry, NoMemory>
         requires { self.old.kernel.now < 2 ^ 59 }
-        ensures { node_tick id self.old ≡ (self.new, result) }
+        ensures { IfOk result (λ e. node_tick id self.old ≡ (self.new, e)) }
     {
+        let before = self.kernel.running();
         self.kernel.tick();
-        plain_entry(alloc, Event::Tick(id), Ans::Quiet)
+        let ends = end_past(alloc, &mut self.kernel, &mut self.held)?;
+        let after = self.kernel.running();
+        tick_entry(alloc, Event::Tick(id), ends, before, after)
     }
 }

@@ -2,7 +2,7 @@
 
 ghost use Rattle.std.specs.Prelude.{◌≡◌, ◌+◌, ◌-◌, ◌<◌, ◌^◌, if◌then◌else◌, [], ◌∷◌, ◌++◌, IfOk, OnOk, map};
 ghost use Rattle.spec_world.specs.PlainNode.{is_pending, answer_of, call_end, holding, gone_marks, begun_marks, run_marks};
-ghost use Rattle.itron.specs.Recorded.{recorded};
+ghost use Rattle.itron.specs.Recorded.{recorded, recorded_tick};
 
 use it_types::{Ans, Bytes, CallEnd, CallNo, Entry, Event, List, Mark, NoMemory, TaskId};
 use k_core::Done;
@@ -32,7 +32,8 @@ fn answer_of(alloc: Global, number: u32, answer: &KAns) -> Result<Ans, NoMemory>
     }
 }
 
-fn call_end(alloc: Global, end: &KEnd) -> Result<CallEnd, NoMemory>
+/// An end in the history.
+pub fn call_end(alloc: Global, end: &KEnd) -> Result<CallEnd, NoMemory>
     ensures { IfOk result (λ e. e ≡ call_end end.now) }
 {
     Ok(CallEnd {
@@ -53,7 +54,8 @@ fn call_ends(alloc: Global, ends: &[KEnd]) -> Result<List<CallEnd>, NoMemory>
     Ok(list)
 }
 
-fn hold_one(alloc: Global, held: &mut Vec<Option<Held>>, end: &KEnd) -> Result<(), NoMemory>
+/// The end becomes the answer that its task holds.
+pub fn hold_one(alloc: Global, held: &mut Vec<Option<Held>>, end: &KEnd) -> Result<(), NoMemory>
     ensures { OnOk result (held.new.items ≡ holding (end.now ∷ []) held.old.items) }
 {
     let bytes = Bytes::of(alloc, end.bytes.as_slice())?;
@@ -78,7 +80,7 @@ pub fn hold(alloc: Global, held: &mut Vec<Option<Held>>, ends: &[KEnd]) -> Resul
 }
 
 /// The marks of an event: the task that ended, the one that began, and the one that runs from now on.
-fn marks_of(
+pub fn marks_of(
     alloc: Global,
     gone: TaskId,
     begun: TaskId,
@@ -117,6 +119,26 @@ pub fn entry_of(
     Ok(Entry {
         ev: event,
         ans,
+        ends,
+        marks,
+        packs: List::new(alloc),
+    })
+}
+
+/// The entry of a tick with these ends, where one task ran before the tick and another, or the same, after it.
+pub fn tick_entry(
+    alloc: Global,
+    event: Event,
+    ends: List<CallEnd>,
+    before: TaskId,
+    after: TaskId,
+) -> Result<Entry, NoMemory>
+    ensures { IfOk result (λ e. e ≡ recorded_tick event ends before after) }
+{
+    let marks = marks_of(alloc, TaskId(0), TaskId(0), before, after)?;
+    Ok(Entry {
+        ev: event,
+        ans: Ans::Quiet,
         ends,
         marks,
         packs: List::new(alloc),

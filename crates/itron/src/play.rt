@@ -65,12 +65,12 @@ impl Play {
     }
 
     /// The stop, or a tick of the node with fewer ticks, where no task runs.
-    fn idle(&mut self, alloc: Global, ticks: u32) -> Entry
+    fn idle(&mut self, alloc: Global, ticks: u32) -> Result<Entry, NoMemory>
         requires { AreWithin ENTRY_LIMIT self.old }
-        ensures { (plan : Plan) → plan.ticks ≡ ticks → after plan self.old (idle_event plan (world_of self.old)) ≡ (self.new, result) }
+        ensures { (plan : Plan) → plan.ticks ≡ ticks → IfOk result (λ e. after plan self.old (idle_event plan (world_of self.old)) ≡ (self.new, e)) }
     {
         if self.is_over(ticks) {
-            return plain_entry(alloc, Event::Stop, Ans::Quiet);
+            return Ok(plain_entry(alloc, Event::Stop, Ans::Quiet));
         }
         if self.first.node().now() <= self.second.node().now() {
             self.first.tick(alloc, NodeId(0))
@@ -103,7 +103,7 @@ impl Play {
             self.second
                 .turn(alloc, NodeId(1), second_decls(script), task)
         } else {
-            Ok(self.idle(alloc, script.ticks))
+            self.idle(alloc, script.ticks)
         }
     }
 

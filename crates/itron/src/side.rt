@@ -89,10 +89,10 @@ impl Side {
         Ok(entry)
     }
 
-    /// A tick of the node's clock.
-    pub fn tick(&mut self, alloc: Global, id: NodeId) -> Entry
+    /// A tick of the node's clock. Without memory the node is not used again.
+    pub fn tick(&mut self, alloc: Global, id: NodeId) -> Result<Entry, NoMemory>
         requires { self.old.node.kernel.now < 2 ^ 59 }
-        ensures { side_tick id self.old ≡ (self.new, result) }
+        ensures { IfOk result (λ e. side_tick id self.old ≡ (self.new, e)) }
     {
         self.node.tick(alloc, id)
     }

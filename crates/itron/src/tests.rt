@@ -15,6 +15,18 @@ const OVERFLOW: &[u8] =
 const OVERFLOW_HISTORY: &[u8] =
     b"trace\n0 task 1 sig_sem 1 = -43\n0 task 1 ext_tsk\n gone 1\n run 0\nstop\n";
 
+const TIMEOUT: &[u8] =
+    b"itron 1\nlink 1 0 0 0\nticks 10\nnode 0 10.0.0.1 0 0\nsem 1 fifo 0 1\ntask 1 1 act\ntwai_sem 1 5\nend\nnode 1 10.0.0.2 0 0\n";
+
+const TIMEOUT_HISTORY: &[u8] =
+    b"trace\n0 task 1 twai_sem 1 5 = pend 1\n run 0\n0 tick\n1 tick\n0 tick\n1 tick\n0 tick\n1 tick\n0 tick\n1 tick\n0 tick\n1 tick\n0 tick\n end 1 -50\n run 1\n0 return 1 = -50\n0 task 1 ext_tsk\n gone 1\n run 0\nstop\n";
+
+const DELAYS: &[u8] =
+    b"itron 1\nlink 1 0 0 0\nticks 10\nnode 0 10.0.0.1 0 0\ntask 1 2 act\ndly_tsk 0\nend\ntask 2 1 act\ndly_tsk 0\nend\nnode 1 10.0.0.2 0 0\n";
+
+const DELAYS_HISTORY: &[u8] =
+    b"trace\n0 task 2 dly_tsk 0 = pend 1\n run 1\n0 task 1 dly_tsk 0 = pend 2\n run 0\n0 tick\n end 1 0\n end 2 0\n run 2\n0 return 2 = 0\n0 task 2 ext_tsk\n gone 2\n run 1\n0 return 1 = 0\n0 task 1 ext_tsk\n gone 1\n run 0\nstop\n";
+
 /// Runs the words on the input, with a sink that takes `piece` bytes a call and fails at the call `fails`, 0 for none.
 /// Gives the status and what was written.
 fn run_words(
@@ -55,6 +67,24 @@ fn a_signal_hands_over(rt: HostRuntime) -> Result<(), Fail> {
 fn a_full_semaphore_refuses(rt: HostRuntime) -> Result<(), Fail> {
     let (status, out) = run_words(rt.alloc(), &["sim"], OVERFLOW, 7, 0)?;
     let text = whole(rt.alloc(), OVERFLOW, OVERFLOW_HISTORY)?;
+    assert_eq!(rt; status, Status::Ok);
+    assert_eq!(rt; out.written(), text.as_slice());
+    Ok(())
+}
+
+#[test]
+fn a_call_of_5_ticks_times_out_at_tick_6(rt: HostRuntime) -> Result<(), Fail> {
+    let (status, out) = run_words(rt.alloc(), &["sim"], TIMEOUT, 1000, 0)?;
+    let text = whole(rt.alloc(), TIMEOUT, TIMEOUT_HISTORY)?;
+    assert_eq!(rt; status, Status::Ok);
+    assert_eq!(rt; out.written(), text.as_slice());
+    Ok(())
+}
+
+#[test]
+fn delays_of_0_ticks_end_at_the_next_tick(rt: HostRuntime) -> Result<(), Fail> {
+    let (status, out) = run_words(rt.alloc(), &["sim"], DELAYS, 1000, 0)?;
+    let text = whole(rt.alloc(), DELAYS, DELAYS_HISTORY)?;
     assert_eq!(rt; status, Status::Ok);
     assert_eq!(rt; out.written(), text.as_slice());
     Ok(())

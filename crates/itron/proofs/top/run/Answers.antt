@@ -1,5 +1,6 @@
 use Rattle.std.proofs.Common.{List, ℕ, sym, subst}
 use Rattle.spec_script.specs.Text.{IsReadAs}
+use Rattle.laws_world.proofs.Rest.{history_rests}
 use Rattle.itron.proofs.Statuses.{script_is}
 use Rattle.itron.proofs.top.run.Goals as goal
 
@@ -8,6 +9,7 @@ returns-in-Ok-clause-ok g c = λ ok.
     let done = c.answer.ensures.ok ok in record {
       input = record { bytes = c.in-Ok.input.items; script = done.0; whole = c.in-Ok.ensures.ok; read = subst (λ (t : List ℕ). IsReadAs t done.0) c.deref.ensures.value done.1 };
       wrote = done.2;
+      rests = history_rests done.0;
     }
 
 pub returns-in-Ok-clause-script : goal.returns-in-Ok-clause-script
@@ -17,3 +19,13 @@ returns-in-Ok-clause-script g c = λ l w e.
       place.1,
       record { bytes = c.in-Ok.input.items; whole = c.in-Ok.ensures.ok; wrong = λ s r. c.answer.ensures.script l w e s (subst (λ (t : List ℕ). IsReadAs t s) (sym c.deref.ensures.value) r) },
     )
+
+pub returns-in-Ok-clause-part : goal.returns-in-Ok-clause-part
+returns-in-Ok-clause-part g c = λ e.
+    let done = c.answer.ensures.part e in record {
+      input = record { bytes = c.in-Ok.input.items; script = done.0; whole = c.in-Ok.ensures.ok; read = subst (λ (t : List ℕ). IsReadAs t done.0) c.deref.ensures.value done.1 };
+      wrote = done.2;
+    }
+
+pub returns-in-Ok-clause-within : goal.returns-in-Ok-clause-within
+returns-in-Ok-clause-within g c = λ not_big no_fault. record { bytes = c.in-Ok.input.items; taken = c.in-Ok.ensures.ok.taken; bound = c.in-Ok.ensures.within }

@@ -15,4 +15,4 @@ pub returns-else-task-ne0 : goal.returns-else-task-ne0
 returns-else-task-ne0 c =
     let p : PlainPlay = record { first = c.self.inside.first; second = c.self.inside.second } in
     let runs_here : running_task c.args.self.now.second.node ≡ c.running-task.result = ap (λ (q : PlainPlay). running_task q.second.node) (sym c.self.view_is) ∙ sym (c.running-task.ensures ∙ ap running_task c.node.ensures) in
-    step_idle (plan_of c.args.script.now) c.args.self.now c.running-task.result (c.idle.new.self, c.idle.result) c.requires.idle c.if-task-ne0.false runs_here (c.idle.ensures (plan_of c.args.script.now) refl)
+    step_idle (plan_of c.args.script.now) c.args.self.now c.idle.new.self c.running-task.result c.idle.result c.requires.idle c.if-task-ne0.false runs_here (c.idle.ensures (plan_of c.args.script.now) refl)

@@ -1,0 +1,61 @@
+#!/usr/bin/env bash
+# Plants each bug of tests/planted in a copy of the repository, and sees that the prover refuses it. It prints a line a
+# patch, `refused NAME: crate function goal` or `PROVED NAME`, and ends with status 1 where a patch does not apply, the
+# crate is still proved, or the check ended for another reason than a goal that is not proved. It takes half a minute or
+# more a patch, so it is no part of the gate. Its arguments are the names of patches, all if none is given.
+cd "$(dirname "$0")/.." || exit 1
+root=$PWD
+work=$(mktemp -d) || exit 1
+trap 'rm -rf "$work"' EXIT
+
+# copied CRATE FOLDER: a copy of the checked-out files, with what checks of the crate and those below it have kept.
+copied() {
+    local name
+    mkdir "$2" && git ls-files -z | xargs -0 cp -p --parents -t "$2" || return 1
+    for name in "$1" $(sed -n "s/^$1://p" crates.txt); do
+        [ ! -d "crates/$name/out" ] || cp -a "crates/$name/out" "$2/crates/$name" || return 1
+    done
+}
+
+# refusals LOG: the functions that are not proved, each with its goal. Those that only call such a function are left
+# out, and a proof that names what the patch took away, since that says nothing of the contract.
+refusals() {
+    sed -nE -e '/which (is|are) not proved$|has no field|has no `|is not in scope|was not admitted/d' \
+        -e 's/^fn [a-z_]*::([^ ]*): no proof: .* did not prove `([^`]*)`.*/\1 \2/p' \
+        -e 's,^(\./)?proofs/([^:]*)/[A-Za-z]*\.antt:[0-9]+:[0-9]+: error: `([^`]*)`: .*,\2 \3,p' "$1" | sed 's,/,::,g'
+}
+
+# planted NAME: plants the bug and checks the crate that is to refuse it.
+planted() {
+    local patch=$root/tests/planted/$1.patch copy=$work/$1 log=$work/$1.log crate status refused
+    crate=$(sed -n 's/^Refused by: \([a-z0-9_]*\),.*/\1/p' "$patch")
+    if [ ! -d "crates/${crate:-none}" ]; then
+        echo "FAILED $1: no crate is named that refuses it"
+        return 1
+    elif ! copied "$crate" "$copy" || ! (cd "$copy" && git apply "$patch"); then
+        echo "FAILED $1: the patch does not apply"
+        return 1
+    fi
+    (cd "$copy/crates/$crate" && rt check >"$log" 2>&1)
+    status=$?
+    rm -rf "$copy"
+    refused=$(refusals "$log")
+    if [ "$status" -eq 0 ]; then
+        echo "PROVED $1"
+        return 1
+    elif [ "$status" -ne 1 ] || ! grep -q '^logic=not-proved' "$log" || [ -z "$refused" ]; then
+        echo "FAILED $1: the check ended with status $status, for another reason than a goal that is not proved:"
+        grep -m 3 error "$log" || tail -n 3 "$log"
+        return 1
+    fi
+    # A clause says more than an invariant.
+    echo "refused $1: $crate $(grep -m 1 ' returns' <<<"$refused" || head -n 1 <<<"$refused")"
+}
+
+[ "$#" -gt 0 ] || set -- tests/planted/*.patch
+failed=0
+for name; do
+    name=${name##*/}
+    planted "${name%.patch}" || failed=1
+done
+exit "$failed"
