@@ -1,3 +1,3 @@
-pub mod KernelPart
 pub mod Spelling
 pub mod Address
+pub mod Configuration

@@ -15,16 +15,18 @@ mod list;
 mod mark;
 mod network_request;
 mod no_memory;
+mod node_conf;
 mod request;
 mod small;
 mod spelling;
 mod timeout;
+pub mod words;
 
 pub use answer::Ans;
 pub use bytes::Bytes;
 pub use conf::{CycConf, CycDecl, DtqDecl, FlgDecl, KConf, SemDecl, SyncConf, TaskConf, TaskDecl};
 pub use context::Ctx;
-pub use entry::{CallEnd, Entry};
+pub use entry::{CallEnd, Entry, Out};
 pub use er::{
     E_BOVR, E_CLS, E_CTX, E_DLT, E_ID, E_ILUSE, E_NOEXS, E_OBJ, E_OK, E_PAR, E_QOVR, E_RLWAI,
     E_SYS, E_TMOUT, E_WBLK, Er, code_numbers,
@@ -37,6 +39,7 @@ pub use list::List;
 pub use mark::{Dir, Mark};
 pub use network_request::NReq;
 pub use no_memory::NoMemory;
+pub use node_conf::{Conf, NodeConf};
 pub use request::Req;
 pub use small::Small;
 pub use spelling::spell_into;

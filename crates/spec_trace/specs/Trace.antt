@@ -4,7 +4,6 @@ use Rattle.std.specs.Prelude.{ℕ, Bool, true, false, List, [], ◌∷◌, ◌++
 use Rattle.std.specs.List.{flat_map}
 use Rattle.std.specs.Fmt.{signed_decimal}
 use Rattle.hex.specs.Hex.{encode_lower}
-use Rattle.it_types.specs.declared.id.EndPt.{EndPt}
 use Rattle.it_types.specs.declared.context.Ctx.{Ctx}
 use Rattle.it_types.specs.declared.context.Ctx.TheVariants as contexts
 use Rattle.it_types.specs.declared.event.Event.{Event}
@@ -22,7 +21,7 @@ use Rattle.it_types.specs.declared.mark.Mark.TheVariants as marks
 use Rattle.it_types.specs.declared.entry.CallEnd.{CallEnd}
 use Rattle.it_types.specs.declared.entry.Entry.{Entry}
 use Rattle.it_types.specs.Spelling.{request_text}
-use Rattle.it_types.specs.Address.{address_text}
+use Rattle.it_types.specs.Address.{end_point_text}
 
 -- ---- words of several lines
 
@@ -30,9 +29,6 @@ use Rattle.it_types.specs.Address.{address_text}
 abbrev pub bytes_text : List ℕ → List ℕ
 bytes_text [] = []
 bytes_text (b ∷ bs) = codes " x" ++ encode_lower (b ∷ bs)
-
-abbrev pub end_point_text : EndPt → List ℕ
-end_point_text e = address_text e.addr ++ (codes ":" ++ decimal e.port)
 
 abbrev pub direction_text : Dir → List ℕ
 direction_text directions.Send = codes "snd"

@@ -2,7 +2,8 @@ ghost use Rattle.std.specs.Prelude.{◌≡◌, ◌++◌, OnOk, codes, decimal};
 ghost use Rattle.it_types.specs.Spelling.{request_text};
 ghost use Rattle.spec_trace.specs.Trace.{answer_text, caller_text, event_text};
 
-use crate::words::{put_number, put_numbered, put_result, put_word};
+use crate::words::put_result;
+use it_types::words::{put_number, put_numbered, put_word};
 use it_types::{Ans, Ctx, Event, NoMemory, NodeId, Req, TaskId, spell_into};
 use std::alloc::Global;
 

@@ -1,11 +1,10 @@
 ghost use Rattle.std.specs.Prelude.{◌≡◌, ◌++◌, OnOk, codes, decimal};
 ghost use Rattle.std.specs.Fmt.{signed_decimal};
-ghost use Rattle.spec_trace.specs.Trace.{bytes_text, end_point_text, function_text, handler_text, lease_text, mark_text, mark_words, protocol_text};
+ghost use Rattle.it_types.specs.Address.{end_point_text};
+ghost use Rattle.spec_trace.specs.Trace.{bytes_text, function_text, handler_text, lease_text, mark_text, mark_words, protocol_text};
 
-use crate::words::{
-    direction_word, function_word, protocol_word, put_bytes, put_code, put_end_point, put_number,
-    put_numbered, put_word,
-};
+use crate::words::{direction_word, function_word, protocol_word, put_bytes, put_code};
+use it_types::words::{put_end_point, put_number, put_numbered, put_word};
 use it_types::{CepId, Dir, EndPt, Er, FnCode, Handler, Mark, NoMemory, ObjId};
 
 // The word, a callback routine, and the end point that it is told of.

@@ -4,7 +4,8 @@ ghost use Rattle.spec_trace.specs.Trace.{answer_text, end_text, entry_text, even
 
 use crate::event::{put_answer, put_event};
 use crate::mark::put_mark;
-use crate::words::{put_hex, put_numbered, put_result, put_word};
+use crate::words::put_result;
+use it_types::words::{put_hex, put_numbered, put_word};
 use it_types::{Ans, Bytes, CallEnd, Entry, Event, Mark, NoMemory};
 use std::alloc::Global;
 

@@ -1,11 +1,9 @@
-ghost use Rattle.std.specs.Prelude.{◌≡◌, [], ◌∷◌, ◌++◌, OnOk, codes, decimal};
+ghost use Rattle.std.specs.Prelude.{◌≡◌, ◌++◌, OnOk};
 ghost use Rattle.std.specs.Fmt.{signed_decimal};
-ghost use Rattle.hex.specs.Hex.{encode_lower};
-ghost use Rattle.it_types.specs.Address.{address_text};
-ghost use Rattle.spec_trace.specs.Trace.{bytes_text, direction_text, end_point_text, function_text, protocol_text};
+ghost use Rattle.spec_trace.specs.Trace.{bytes_text, direction_text, function_text, protocol_text};
 
-use it_types::{Dir, EndPt, Er, FnCode, NoMemory};
-use itoa::{Buffer, Integer};
+use it_types::words::{put_hex, put_number, put_word};
+use it_types::{Dir, Er, FnCode, NoMemory};
 
 pub fn direction_word(direction: Dir) -> &'static [u8]
     ensures { result.now ≡ direction_text direction }
@@ -40,53 +38,12 @@ pub fn function_word(function: FnCode) -> &'static [u8]
     }
 }
 
-pub fn put_word(out: &mut Vec<u8>, word: &[u8]) -> Result<(), NoMemory>
-    ensures { OnOk result (out.new.items ≡ out.old.items ++ word.now) }
-{
-    out.extend_from_slice(word)?;
-    Ok(())
-}
-
-pub fn put_number<I: Integer>(out: &mut Vec<u8>, number: I) -> Result<(), NoMemory>
-    ensures { OnOk result (out.new.items ≡ out.old.items ++ I.text number) }
-{
-    let mut buffer = Buffer::new();
-    out.extend_from_slice(buffer.format(number).as_bytes())?;
-    Ok(())
-}
-
-/// Appends the word and the number.
-pub fn put_numbered(out: &mut Vec<u8>, word: &[u8], number: u32) -> Result<(), NoMemory>
-    ensures { OnOk result (out.new.items ≡ out.old.items ++ (word.now ++ decimal number)) }
-{
-    put_word(out, word)?;
-    put_number(out, number)
-}
-
 /// Appends the word and the code.
 pub fn put_code(out: &mut Vec<u8>, word: &[u8], code: Er) -> Result<(), NoMemory>
     ensures { OnOk result (out.new.items ≡ out.old.items ++ (word.now ++ signed_decimal code.0)) }
 {
     put_word(out, word)?;
     put_number(out, code.0)
-}
-
-fn put_hex_byte(out: &mut Vec<u8>, byte: u8) -> Result<(), NoMemory>
-    ensures { OnOk result (out.new.items ≡ out.old.items ++ encode_lower (byte ∷ [])) }
-{
-    let mut digits = [0; 2];
-    hex::encode_to_slice([byte], &mut digits).unwrap();
-    put_word(out, &digits)
-}
-
-#[tactic(auto, using(crate::proofs::Hex::no_hex, crate::proofs::Hex::more_hex))]
-pub fn put_hex(out: &mut Vec<u8>, bytes: &[u8]) -> Result<(), NoMemory>
-    ensures { OnOk result (out.new.items ≡ out.old.items ++ encode_lower bytes.now) }
-{
-    for byte in bytes {
-        put_hex_byte(out, *byte)?;
-    }
-    Ok(())
 }
 
 /// Appends the bytes, where there are any.
@@ -106,23 +63,4 @@ pub fn put_result(out: &mut Vec<u8>, word: &[u8], code: Er, bytes: &[u8]) -> Res
 {
     put_code(out, word, code)?;
     put_bytes(out, bytes)
-}
-
-fn put_address(out: &mut Vec<u8>, address: u32) -> Result<(), NoMemory>
-    ensures { OnOk result (out.new.items ≡ out.old.items ++ address_text address) }
-{
-    put_number(out, address / 16777216)?;
-    put_numbered(out, b".", address / 65536 % 256)?;
-    put_numbered(out, b".", address / 256 % 256)?;
-    put_numbered(out, b".", address % 256)
-}
-
-/// Appends the word and the address with its port.
-pub fn put_end_point(out: &mut Vec<u8>, word: &[u8], end: EndPt) -> Result<(), NoMemory>
-    ensures { OnOk result (out.new.items ≡ out.old.items ++ (word.now ++ end_point_text end)) }
-{
-    put_word(out, word)?;
-    put_address(out, end.addr)?;
-    put_word(out, b":")?;
-    put_number(out, end.port)
 }
