@@ -1,8 +1,9 @@
 use super::{
-    Failed, MemSink, MemSource, ReadErr, Source, StdSink, StdSource, WriteErr, read_all, write_all,
+    Failed, MemSink, MemSource, ReadErr, Sink, Source, StdSink, StdSource, WriteErr, read_all,
+    write_all,
 };
 use std::io;
-use std::io::{Error, ErrorKind, Read};
+use std::io::{Error, ErrorKind, Read, Write};
 use std::test::Fail;
 
 #[test]
@@ -99,7 +100,7 @@ fn each_failing_write_is_told_at_its_call(rt: HostRuntime) -> Result<(), Fail> {
     Ok(())
 }
 
-// A reader whose first read a signal breaks off, and whose third fails.
+// A reader whose first read a signal breaks off, and whose third fails, but no other.
 #[derive(Drop)]
 struct Broken {
     reads: u32,
@@ -110,8 +111,8 @@ impl Read for Broken {
         self.reads = self.reads.saturating_add(1);
         match self.reads {
             1 => Err(Error::from(ErrorKind::Interrupted)),
-            2 => Ok(0),
-            _ => Err(Error::from(ErrorKind::BrokenPipe)),
+            3 => Err(Error::from(ErrorKind::BrokenPipe)),
+            _ => Ok(0),
         }
     }
 }
@@ -128,8 +129,35 @@ fn a_std_source_passes_on_what_its_reader_answers(rt: HostRuntime) {
     assert_eq!(rt; broken.read(&mut [0u8; 4]), Err(Failed));
 }
 
+// A writer whose first write a signal breaks off, whose third fails, and whose fourth takes nothing.
+#[derive(Drop)]
+struct Choosy {
+    writes: u32,
+}
+
+impl Write for Choosy {
+    fn write(&mut self, bytes: &[u8]) -> io::Result<usize> {
+        self.writes = self.writes.saturating_add(1);
+        match self.writes {
+            1 => Err(Error::from(ErrorKind::Interrupted)),
+            3 => Err(Error::from(ErrorKind::BrokenPipe)),
+            4 => Ok(0),
+            _ => Ok(bytes.len().min(1)),
+        }
+    }
+
+    fn flush(&mut self) -> io::Result<()> {
+        Ok(())
+    }
+}
+
 #[test]
 fn a_std_sink_passes_on_what_its_writer_answers(rt: HostRuntime) {
     let mut output = StdSink::new(io::writer(&rt));
     assert_eq!(rt; write_all(&mut output, b"written\n"), Ok(()));
+    let mut choosy = StdSink::new(Choosy { writes: 0 });
+    assert_eq!(rt; choosy.write(b"ab"), Ok(1));
+    assert_eq!(rt; choosy.write(b"ab"), Err(Failed));
+    assert_eq!(rt; choosy.write(b"ab"), Err(Failed));
+    assert_eq!(rt; choosy.write(b"ab"), Ok(1));
 }

@@ -17,6 +17,7 @@ pub enum WriteErr {
 pub fn write_all<K: Sink>(sink: &mut K, bytes: &[u8]) -> Result<(), WriteErr>
     ensures ok { OnOk result (Appends (K.written sink.old) (K.written sink.new) bytes.now) }
     ensures fault { OnErr result (Rose (K.faults sink.old) (K.faults sink.new)) }
+    ensures no_fault { OnOk result (K.faults sink.new ≡ K.faults sink.old) }
     ensures first { (n : ℕ) → result ≡ Err (WriteErr.Fault n) →
         Appends (K.written sink.old) (K.written sink.new) (take n bytes.now) }
     ensures part { (n : ℕ) → result ≡ Err (WriteErr.Fault n) → n < length bytes.now }
