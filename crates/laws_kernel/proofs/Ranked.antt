@@ -1,5 +1,5 @@
 -- The kernel with ranks does what the kernel with places does.
-use Rattle.std.proofs.Common.{◌≡◌, ◌≢◌, ℕ, zero, suc, ◌<◌, List, ◌∷◌, ◌++◌, length, Option, Some, None, refl, ap, subst, inl, inr, ltb}
+use Rattle.std.proofs.Common.{◌≡◌, ◌≢◌, ℕ, zero, suc, ◌<◌, ◌≤◌, List, ◌∷◌, length, Option, Some, None, refl, ap, inl, inr, ltb}
 use Rattle.std.proofs.lemmas.Bool.{cases_Bool}
 use Rattle.it_types.specs.declared.id.TaskId.{TaskId}
 use Rattle.it_types.specs.declared.id.CallNo.{CallNo}
@@ -21,9 +21,11 @@ use Rattle.spec_kernel.specs.PlainKernel.{PlainKernel}
 use Rattle.spec_kernel.specs.Semaphores.{count_of}
 use Rattle.spec_kernel.specs.Tasks.{running}
 use Rattle.spec_kernel.specs.Settle.{Outcome, is_ready, first_ready, freed, end_of, settle, settled}
-use Rattle.spec_kernel.specs.Deadlines.{is_next_past, next_past, ended_by_time, due, time_out, timed_out}
+use Rattle.spec_kernel.specs.Deadlines.{is_next_past, next_past, due}
+use Rattle.spec_kernel.specs.Outside.{blocked, unblocked, is_outside_of, outside_wait_of}
 use Rattle.spec_kernel.specs.Rows.{is_poll, deadline_of, refusals, accepted, carried_out, unless_refused, row, call, tick, quiet, ticked}
-use Rattle.laws_kernel.specs.Ranks.{Ranks, Ended, Ranked, task_draws, row_draws, settle_by_rank, settled_by_rank, call_by_rank, ended_by_time_and_rank, time_out_by_rank, tick_by_rank, more_ends}
+use Rattle.laws_kernel.specs.Runnable.{times_listed}
+use Rattle.laws_kernel.specs.Ranks.{Ranks, Ended, Ranked, task_draws, row_draws, settle_by_rank, settled_by_rank, call_by_rank, due_by_rank, tick_by_rank, RankedKernel, blocked_by_rank, unblocked_by_rank}
 use Rattle.laws_kernel.proofs.Rising.{first_is_least}
 use Rattle.laws_kernel.proofs.Standing.{call_rank, StandsFor, freed_stands, waiting_stands, exited_stands}
 use Rattle.laws_kernel.proofs.Urgent.{running_listed}
@@ -106,38 +108,40 @@ module _ (k : PlainKernel) (r : Ranks) (number : CallNo) (h : StandsFor k r) (lt
 
 -- ---- ends by time
 
-more_same : (x : Ranked) (o : Outcome) (rest : Ended) (plain : PlainKernel × List KEnd)
-    → x.outcome ≡ o
-    → SameEnds rest plain
-    → SameEnds (more_ends x rest) (plain.0, o.ends ++ plain.1)
-more_same x o rest plain e h = record { kernel = h.kernel; ends = rw (e, h.ends) refl; stands = h.stands }
+-- what is due by ranks is what is due by places
+abbrev pub SameDue : Option Ranked → Option Outcome → Type 0
+SameDue None None = Unit {0}
+SameDue (Some x) (Some o) = SameOutcome x o
+SameDue _ _ = ⊥
 
-time_out_same : (n : ℕ) (k : PlainKernel) (r : Ranks) → StandsFor k r → SameEnds (time_out_by_rank n k r) (time_out n k)
-unfolding time_out_by_rank time_out due
-time_out_same zero k r h = record { kernel = refl; ends = refl; stands = h }
-time_out_same (suc n) k r h = elim (cases_of_first (next_past k)) [
-  | inl none ↦ rw none (record { kernel = refl; ends = refl; stands = h })
-  | inr some ↦ (
-      let z : Wait × List Wait = some.0 in
-      let x : Ranked = ended_by_time_and_rank k r z in
-      let one = settled_same _ (task_draws z.0.task r) (freed_stands h (is_next_past k.now k.waits) z some.1) in
-      let rest = time_out_same n x.outcome.kernel x.ranks one.stands in
-      rw some.1 (more_same x (ended_by_time k z) (time_out_by_rank n x.outcome.kernel x.ranks) (time_out n (ended_by_time k z).kernel) one.outcome
-      (subst (λ (o : Outcome). SameEnds (time_out_by_rank n x.outcome.kernel x.ranks) (time_out n o.kernel)) one.outcome rest))
-      )
+pub due_same : (k : PlainKernel) (r : Ranks) → StandsFor k r → SameDue (due_by_rank k r) (due k)
+unfolding due_by_rank due
+due_same k r h = elim (cases_of_first (next_past k)) [
+  | inl none ↦ rw none tt
+  | inr some ↦ (let z : Wait × List Wait = some.0 in rw some.1 (settled_same _ (task_draws z.0.task r) (freed_stands h (is_next_past k.now k.waits) z some.1)))
 ]
 
-timed_out_same : (x : Ranked) (o : Outcome) → SameOutcome x o → SameOutcome (record { outcome = record x.outcome { kernel = (time_out_by_rank (length x.outcome.kernel.waits) x.outcome.kernel x.ranks).kernel; ends = x.outcome.ends ++ (time_out_by_rank (length x.outcome.kernel.waits) x.outcome.kernel x.ranks).ends }; ranks = (time_out_by_rank (length x.outcome.kernel.waits) x.outcome.kernel x.ranks).ranks }) (timed_out o)
-unfolding timed_out
-timed_out_same x o h =
-    let rest = time_out_same (length x.outcome.kernel.waits) x.outcome.kernel x.ranks h.stands in record {
-      outcome = rw (rest.kernel, rest.ends) (ap timed_out_of h.outcome);
-      stands = rest.stands;
-    }
-  where
-    timed_out_of : Outcome → Outcome
-    timed_out_of p = record p { kernel = (time_out (length p.kernel.waits) p.kernel).0; ends = p.ends ++ (time_out (length p.kernel.waits) p.kernel).1 }
-
-pub tick_same : (k : PlainKernel) (r : Ranks) → StandsFor k r → SameOutcome (tick_by_rank k r) (timed_out (tick k))
+pub tick_same : (k : PlainKernel) (r : Ranks) → StandsFor k r → SameOutcome (tick_by_rank k r) (tick k)
 unfolding tick_by_rank tick
-tick_same k r h = timed_out_same (settled_by_rank (quiet (ticked k)) r) (settled (quiet (ticked k))) (settled_same (quiet (ticked k)) r h)
+tick_same k r h = settled_same (quiet (ticked k)) r h
+
+-- ---- waits for calls of the network part
+
+-- a kernel by ranks is that by places
+pub record SameKernel (x : RankedKernel) (k : PlainKernel) : Type 0 where
+  pub kernel : x.kernel ≡ k
+  pub stands : StandsFor x.kernel x.ranks
+
+pub block_same : (k : PlainKernel) (r : Ranks) (t : TaskId) (tmo : Tmo) (number : CallNo)
+    → StandsFor k r
+    → 1 ≤ times_listed t.0 k.runnable
+    → k.last_call < number.0
+    → SameKernel (blocked_by_rank k r t tmo number) (blocked k t tmo number)
+block_same k r t tmo number h listed lt = record { kernel = refl; stands = waiting_stands h t number targets.Outside (deadline_of k.now tmo) listed lt }
+
+pub unblock_same : (k : PlainKernel) (r : Ranks) (t : TaskId) → StandsFor k r → SameKernel (unblocked_by_rank k r t) (unblocked k t).0
+unfolding unblocked_by_rank unblocked
+unblock_same k r t h = elim (cases_of_first (outside_wait_of k t)) [
+  | inl none ↦ rw none (record { kernel = refl; stands = h })
+  | inr some ↦ rw some.1 (record { kernel = refl; stands = freed_stands h (is_outside_of t) some.0 some.1 })
+]

@@ -1,10 +1,11 @@
 -- Numbers that rise along a list: the first that passes a test has the least number of those that pass.
-use Rattle.std.proofs.Common.{◌≡◌, ℕ, ◌<◌, ◌≤◌, Bool, true, false, not, ◌&&◌, ◌||◌, List, [], ◌∷◌, ◌++◌, Some, refl, ◌∙◌, ap, subst, inl, inr, arith}
+use Rattle.std.proofs.Common.{◌≡◌, ℕ, ◌<◌, ◌≤◌, Bool, true, false, ◌&&◌, ◌||◌, List, [], ◌∷◌, ◌++◌, Some, refl, ◌∙◌, ap, subst, inl, inr, arith}
 use Rattle.std.specs.Prelude.{nat_lt, filter}
 use Rattle.std.specs.List.{list_any}
 use Rattle.std.proofs.lemmas.Bool.{cases_Bool, le-ltb}
 use Rattle.spec_lists.specs.First.{take_first, put_back}
 use Rattle.spec_lists.proofs.Firsts.{same_first, some_parts}
+use Rattle.spec_kernel.proofs.Least.{is_least}
 
 -- each number of the list is above n
 abbrev pub AllAbove : {X : Type 0} → (X → ℕ) → ℕ → List X → Type 0
@@ -114,13 +115,9 @@ none_lower f key n (x ∷ xs) h = rw (le-ltb (key x) n (omega (arith, h.0)), non
     no_lower true = refl
     no_lower false = refl
 
--- an element passes, and none that passes has a lower number
-abbrev pub passes_first : {X : Type 0} → (X → Bool) → (X → ℕ) → List X → X → Bool
-passes_first f key xs x = f x && not (list_any (λ v. f v && nat_lt (key v) (key x)) xs)
-
-pub first_is_least : {X : Type 0} (f : X → Bool) (key : X → ℕ) (xs : List X) → Rises key xs → take_first (passes_first f key xs) xs ≡ take_first f xs
+pub first_is_least : {X : Type 0} (f : X → Bool) (key : X → ℕ) (xs : List X) → Rises key xs → take_first (is_least f key xs) xs ≡ take_first f xs
 first_is_least f key [] h = refl
 first_is_least f key (x ∷ xs) h = elim (cases_Bool (f x)) [
   | inl t ↦ rw (t, le-ltb (key x) (key x) (omega arith), none_lower f key (key x) xs h.0) refl
-  | inr t ↦ rw t (ap (put_back x) (same_first (passes_first f key (x ∷ xs)) (passes_first f key xs) xs (λ y. rw t refl) ∙ first_is_least f key xs h.1))
+  | inr t ↦ rw t (ap (put_back x) (same_first (is_least f key (x ∷ xs)) (is_least f key xs) xs (λ y. rw t refl) ∙ first_is_least f key xs h.1))
 ]

@@ -6,6 +6,7 @@ use Rattle.std.specs.Prelude.{ℕ, zero, suc, ◌+◌, Bool, not, ◌&&◌, ◌|
 use Rattle.std.specs.List.{list_any}
 use Rattle.it_types.specs.declared.id.TaskId.{TaskId}
 use Rattle.it_types.specs.declared.id.CallNo.{CallNo}
+use Rattle.it_types.specs.declared.timeout.Tmo.{Tmo}
 use Rattle.it_types.specs.declared.context.Ctx.{Ctx}
 use Rattle.it_types.specs.declared.kernel_request.KReq.{KReq}
 use Rattle.spec_lists.specs.Tables.{get}
@@ -20,6 +21,7 @@ use Rattle.spec_kernel.specs.Tasks.{priority_of}
 use Rattle.spec_kernel.specs.Settle.{Outcome, is_ready, freed, end_of, woken}
 use Rattle.spec_kernel.specs.Deadlines.{next_past, end_by_time}
 use Rattle.spec_kernel.specs.Rows.{row, quiet, ticked}
+use Rattle.spec_kernel.specs.Outside.{blocked, outside_wait_of}
 use Rattle.laws_kernel.specs.Runnable.{is_runnable}
 
 pub record Ranks : Type 0 where
@@ -116,21 +118,36 @@ abbrev pub ended_by_time_and_rank : PlainKernel → Ranks → Wait × List Wait 
 ended_by_time_and_rank k r found =
     settled_by_rank (record { kernel = woken k found.0 found.1; answer = Quiet; ends = end_by_time found.0 ∷ []; gone = nobody; begun = nobody }) (task_draws found.0.task r)
 
-abbrev pub more_ends : Ranked → Ended → Ended
-more_ends o rest = record rest { ends = o.outcome.ends ++ rest.ends }
+-- what the call of the least number whose deadline is past makes, None where there is none
+abbrev pub due_of_by_rank : PlainKernel → Ranks → Option (Wait × List Wait) → Option Ranked
+due_of_by_rank k r None = None
+due_of_by_rank k r (Some found) = Some (ended_by_time_and_rank k r found)
 
-abbrev pub time_turn_by_rank : (PlainKernel → Ranks → Ended) → PlainKernel → Ranks → Option (Wait × List Wait) → Ended
-time_turn_by_rank go_on k r None = nothing_ends k r
-time_turn_by_rank go_on k r (Some found) = let o = ended_by_time_and_rank k r found in more_ends o (go_on o.outcome.kernel o.ranks)
+unfoldable pub due_by_rank : PlainKernel → Ranks → Option Ranked
+due_by_rank k r = due_of_by_rank k r (next_past k)
 
--- while a deadline is past, the call of the least number ends
-unfoldable pub time_out_by_rank : ℕ → PlainKernel → Ranks → Ended
-time_out_by_rank zero k r = nothing_ends k r
-time_out_by_rank (suc n) k r = time_turn_by_rank (time_out_by_rank n) k r (next_past k)
-
--- a tick of the kernel, and the ends of all calls whose deadline is past then
+-- a tick of the kernel, after which calls may be due
 unfoldable pub tick_by_rank : PlainKernel → Ranks → Ranked
-tick_by_rank k r = let o = settled_by_rank (quiet (ticked k)) r in and_ended o.outcome (time_out_by_rank (length o.outcome.kernel.waits) o.outcome.kernel o.ranks)
+tick_by_rank k r = settled_by_rank (quiet (ticked k)) r
+
+-- ---- waits for calls of the network part
+
+-- a kernel with its ranks
+pub record RankedKernel : Type 0 where
+  pub kernel : PlainKernel
+  pub ranks : Ranks
+
+-- a task that waits outside has a call that is accepted
+abbrev pub blocked_by_rank : PlainKernel → Ranks → TaskId → Tmo → CallNo → RankedKernel
+blocked_by_rank k r task tmo number = record { kernel = blocked k task tmo number; ranks = call_draws number r }
+
+-- a task that waits outside no longer becomes runnable; it waits once at most, so that no choice is made here
+abbrev pub unblocked_at_by_rank : PlainKernel → Ranks → Option (Wait × List Wait) → RankedKernel
+unblocked_at_by_rank k r None = record { kernel = k; ranks = r }
+unblocked_at_by_rank k r (Some found) = record { kernel = woken k found.0 found.1; ranks = task_draws found.0.task r }
+
+unfoldable pub unblocked_by_rank : PlainKernel → Ranks → TaskId → RankedKernel
+unblocked_by_rank k r task = unblocked_at_by_rank k r (outside_wait_of k task)
 
 -- ---- the opening
 

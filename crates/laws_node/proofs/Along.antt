@@ -108,7 +108,7 @@ grown_free held k after t none grows h id there = elim (cases_eq t.0 id) [
 
 -- ---- the events
 
-abbrev NodeFree : PlainNode → Type 0
+abbrev pub NodeFree : PlainNode → Type 0
 NodeFree n = HoldersFree n.held n.kernel.waits
 
 kernel_called_free : (n : PlainNode) (t : TaskId) (request : KReq) → MayCall n.kernel (contexts.Task t) → is_some (get n.held t.0) ≡ false → SoundNode n → NodeFree n → NodeFree (kernel_called n (contexts.Task t) request).0
@@ -195,12 +195,16 @@ step_free n (Arrive bytes) h free e = arrived_free n bytes h free
 
 -- ---- any list of events
 
-record Holds (n : PlainNode) : Type 0 where
-  sound : SoundNode n
-  free : NodeFree n
+pub record Holds (n : PlainNode) : Type 0 where
+  pub sound : SoundNode n
+  pub free : NodeFree n
+
+-- each admitted event keeps it
+pub step_holds : (n : PlainNode) (event : NodeEvent) → is_admitted n event ≡ true → Holds n → Holds (node_step n event).0
+step_holds n event e h = record { sound = step_sound n event h.sound e; free = step_free n event h.sound h.free e }
 
 taken_holds : (n : PlainNode) (event : NodeEvent) → Holds n → Holds (taken n event)
-taken_holds n event h = go (is_admitted n event) (λ e. record { sound = step_sound n event h.sound e; free = step_free n event h.sound h.free e })
+taken_holds n event h = go (is_admitted n event) (λ e. step_holds n event e h)
   where
     go : (b : Bool) → (b ≡ true → Holds (node_step n event).0) → Holds (elim b [ true ↦ (node_step n event).0 | false ↦ n ])
     go true stepped = stepped refl
@@ -214,15 +218,15 @@ in_order (c ∷ cs) h = (above c.call.0 cs h.0, in_order cs h.1)
     above m [] g = tt
     above m (d ∷ ds) g = (g.0, above m ds g.1)
 
-agree : (n : PlainNode) → Holds n → PartsAgree n
+pub agree : (n : PlainNode) → Holds n → PartsAgree n
 agree n h = record { same = h.sound.same; in_order = in_order n.net.calls h.sound.rises; runnable = is_exact n.kernel h.sound.stands.1.balanced; holders = h.free }
 
 agree_along : (n : PlainNode) (es : List NodeEvent) → Holds n → AgreeAlong n es
 agree_along n [] h = agree n h
 agree_along n (e ∷ es) h = (agree n h, agree_along (taken n e) es (taken_holds n e h))
 
-pub agree_from_opening : (conf : KConf) (addr : ℕ) (es : List NodeEvent) → IsDeclarable conf → AgreeAlong (opened_node conf addr) es
-agree_from_opening conf addr es can = agree_along (opened_node conf addr) es (record {
+pub opening_holds : (conf : KConf) (addr : ℕ) → IsDeclarable conf → Holds (opened_node conf addr)
+opening_holds conf addr can = record {
   sound = record {
     stands = (_, opened_stands conf can);
     last = omega arith;
@@ -231,4 +235,7 @@ agree_from_opening conf addr es can = agree_along (opened_node conf addr) es (re
     below = tt;
   };
   free = λ id there. refl;
-})
+}
+
+pub agree_from_opening : (conf : KConf) (addr : ℕ) (es : List NodeEvent) → IsDeclarable conf → AgreeAlong (opened_node conf addr) es
+agree_from_opening conf addr es can = agree_along (opened_node conf addr) es (opening_holds conf addr can)

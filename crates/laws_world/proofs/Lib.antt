@@ -1,3 +1,7 @@
+pub mod Moves
 pub mod Rest
-pub mod Points
+pub mod Both
+pub mod SameProgress
+pub mod SameNodeSteps
 pub mod SameSteps
+pub mod Sending

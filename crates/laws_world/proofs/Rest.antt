@@ -1,59 +1,43 @@
--- Each event leaves the world at rest.
-use Rattle.std.proofs.Common.{Bool, true, false, cond, List, [], ◌∷◌, map, refl}
-use Rattle.std.specs.Prelude.{◌==◌}
-use Rattle.it_types.specs.declared.id.NodeId.{NodeId}
-use Rattle.it_types.specs.declared.id.TaskId.{TaskId}
-use Rattle.it_types.specs.KernelPart.{kernel_part}
-use Rattle.it_types.specs.declared.context.Ctx.{Ctx}
-use Rattle.it_types.specs.declared.request.Req.{Req}
+-- Each event leaves both nodes at rest.
+use Rattle.std.proofs.Common.{Bool, List, [], ◌∷◌}
 use Rattle.it_types.specs.declared.event.Event.{Event}
-use Rattle.it_types.specs.declared.event.Event.TheVariants as events
 use Rattle.it_types.specs.declared.entry.Entry.{Entry}
-use Rattle.spec_kernel.specs.Rows.{tick, quiet, ticked}
-use Rattle.spec_kernel.proofs.Settling.{call_rests, settled_rests}
-use Rattle.spec_kernel.proofs.Timing.{call_none_past, tick_none_past, timed_out_rests}
-use Rattle.spec_world.specs.PlainNode.{PlainNode, node_call, node_return, node_tick}
-use Rattle.spec_world.specs.PlainWorld.{PlainWorld, node_at, with_node, step}
-use Rattle.spec_world.specs.Schedule.{Plan, opening, world_of, plan_of, serial}
-use Rattle.laws_world.specs.AtRest.{NodeRests, IsAtRest, RestsAlong, event_of, HistoryRests}
-use Rattle.spec_script.specs.declared.script.Script.{Script}
+use Rattle.it_types.specs.declared.node_conf.Conf.{Conf}
+use Rattle.it_types.specs.Configuration.{kernel_conf, first_conf, second_conf}
+use Rattle.spec_node.specs.PlainNode.{PlainNode}
+use Rattle.spec_world.specs.PlainWorld.{PlainWorld, step, opened_world}
+use Rattle.spec_world.specs.Admitted.{is_admitted}
+use Rattle.laws_node.specs.AtRest.{NodeRests}
+use Rattle.laws_node.proofs.Rest as one_node
+use Rattle.laws_world.specs.AtRest.{IsAtRest, RestsAlong, LogRests}
+use Rattle.laws_world.proofs.Moves.{Moved, step_moves, move_keeps}
 
--- one of two that rest is at rest
-either_rests : (b : Bool) (a c : PlainNode) → NodeRests a → NodeRests c → NodeRests (cond b a c)
-either_rests true a c p q = p
-either_rests false a c p q = q
+moved_rests : (admitted : Bool) (n m : PlainNode) → NodeRests n → Moved admitted n m → NodeRests m
+moved_rests admitted n m rest moved = move_keeps NodeRests admitted n m (λ event. (one_node.always n (event ∷ []) rest).0) rest moved
 
-placed : (w : PlainWorld) (id : NodeId) (stepped : PlainNode × Entry) → IsAtRest w → NodeRests stepped.0 → IsAtRest (with_node w id stepped).0
-placed w id stepped rest new = record { first = either_rests (id.0 == 0) stepped.0 w.first new rest.first; second = either_rests (id.0 == 0) w.second stepped.0 rest.second new }
+pub step_rests : (w : PlainWorld) (event : Event) → IsAtRest w.nodes → IsAtRest (step w event).0.nodes
+step_rests w event rest =
+    let moved = step_moves w event in
+    record {
+      first = moved_rests (is_admitted w event) w.nodes.first (step w event).0.nodes.first rest.first moved.first;
+      second = moved_rests (is_admitted w event) w.nodes.second (step w event).0.nodes.second rest.second moved.second;
+    }
 
-node_rests : (w : PlainWorld) (id : NodeId) → IsAtRest w → NodeRests (node_at w id)
-node_rests w id rest = either_rests (id.0 == 0) w.first w.second rest.first rest.second
+pub opening_rests : (conf : Conf) → IsAtRest (opened_world conf).nodes
+opening_rests conf = record {
+  first = one_node.opening_rests (kernel_conf (first_conf conf)) (first_conf conf).addr;
+  second = one_node.opening_rests (kernel_conf (second_conf conf)) (second_conf conf).addr;
+}
 
-call_leaves_rest : (id : NodeId) (n : PlainNode) (ctx : Ctx) (request : Req) → NodeRests n → NodeRests (node_call id n ctx request).0
-unfolding node_call
-call_leaves_rest id n ctx request rest = record { none_ready = call_rests n.kernel ctx (kernel_part request) _; none_past = call_none_past n.kernel ctx (kernel_part request) _ rest.none_past }
-
-return_leaves_rest : (id : NodeId) (n : PlainNode) (task : TaskId) → NodeRests n → NodeRests (node_return id n task).0
-unfolding node_return
-return_leaves_rest id n task rest = record { none_ready = rest.none_ready; none_past = rest.none_past }
-
-tick_leaves_rest : (id : NodeId) (n : PlainNode) → NodeRests (node_tick id n).0
-unfolding node_tick tick
-tick_leaves_rest id n = record { none_ready = timed_out_rests (tick n.kernel) (settled_rests (quiet (ticked n.kernel))); none_past = tick_none_past n.kernel }
-
-step_rests : (w : PlainWorld) (event : Event) → IsAtRest w → IsAtRest (step w event).0
-unfolding step
-step_rests w (events.Call id ctx request) rest = placed w id (node_call id (node_at w id) ctx request) rest (call_leaves_rest id (node_at w id) ctx request (node_rests w id rest))
-step_rests w (events.Return id task) rest = placed w id (node_return id (node_at w id) task) rest (return_leaves_rest id (node_at w id) task (node_rests w id rest))
-step_rests w (events.Tick id) rest = placed w id (node_tick id (node_at w id)) rest (tick_leaves_rest id (node_at w id))
-step_rests w _ rest = rest
-
-pub always : (w : PlainWorld) (es : List Event) → IsAtRest w → RestsAlong w es
+pub always : (w : PlainWorld) (events : List Event) → IsAtRest w.nodes → RestsAlong w events
 always w [] rest = tt
-always w (e ∷ es) rest = let next = step_rests w e rest in (next, always (step w e).0 es next)
+always w (event ∷ events) rest = let next = step_rests w event rest in (next, always (step w event).0 events next)
 
-pub opening_rests : (plan : Plan) → IsAtRest (world_of (opening plan))
-opening_rests plan = record { first = record { none_ready = refl; none_past = refl }; second = record { none_ready = refl; none_past = refl } }
+-- the nodes are at rest after each entry of a log, from a world at rest on
+pub entries_rest : (w : PlainWorld) (log : List Entry) → IsAtRest w.nodes → LogRests w log
+entries_rest w [] rest = tt
+entries_rest w (e ∷ es) rest = let next = step_rests w e.ev rest in (next, entries_rest (step w e.ev).0 es next)
 
-pub history_rests : (s : Script) → HistoryRests s
-history_rests s = always (world_of (opening (plan_of s))) (map event_of (serial s)) (opening_rests (plan_of s))
+-- and so from every opening on
+pub log_rests : (conf : Conf) (log : List Entry) → LogRests (opened_world conf) log
+log_rests conf log = entries_rest (opened_world conf) log (opening_rests conf)

@@ -1,4 +1,7 @@
 pub mod AtRest
-pub mod Scheduled
 pub mod Taken
+pub mod BothNodes
+pub mod RankedProgress
+pub mod RankedNode
 pub mod ByRank
+pub mod Packets

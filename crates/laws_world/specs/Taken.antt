@@ -2,16 +2,17 @@
 use Rattle.std.specs.Prelude.{true, false, List, [], ◌∷◌}
 use Rattle.it_types.specs.declared.event.Event.{Event}
 use Rattle.it_types.specs.declared.entry.Entry.{Entry}
+use Rattle.it_types.specs.declared.node_conf.Conf.{Conf}
+use Rattle.it_types.specs.Configuration.{kernel_conf, first_conf, second_conf}
 use Rattle.spec_kernel.specs.Opening.{IsDeclarable}
-use Rattle.spec_world.specs.PlainWorld.{PlainWorld, step, is_admitted}
-use Rattle.spec_world.specs.Declarations.{conf_of}
-use Rattle.spec_world.specs.Schedule.{Plan}
-use Rattle.laws_kernel.specs.Runnable.{IsExact}
+use Rattle.spec_node.specs.PlainNode.{PlainNode}
+use Rattle.spec_world.specs.PlainWorld.{PlainWorld, step}
+use Rattle.spec_world.specs.Admitted.{is_admitted}
 
--- what both nodes of a plan declare can be declared
-pub record CanOpen (plan : Plan) : Type 0 where
-  pub first : IsDeclarable (conf_of plan.first)
-  pub second : IsDeclarable (conf_of plan.second)
+-- what the kernels of both nodes begin with can be declared
+pub record CanOpen (conf : Conf) : Type 0 where
+  pub first : IsDeclarable (kernel_conf (first_conf conf))
+  pub second : IsDeclarable (kernel_conf (second_conf conf))
 
 -- the world after an event
 abbrev pub taken : PlainWorld → Event → PlainWorld
@@ -22,12 +23,12 @@ abbrev pub entries : PlainWorld → List Event → List Entry
 entries w [] = []
 entries w (event ∷ events) = elim (is_admitted w event) [ true ↦ (step w event).1 ∷ entries (step w event).0 events | false ↦ entries w events ]
 
--- the lists of runnable tasks of both nodes have each runnable task once, and no other
-pub record AreExact (w : PlainWorld) : Type 0 where
-  pub first : IsExact w.first.kernel
-  pub second : IsExact w.second.kernel
+-- what holds of a node holds of both nodes
+pub record OfBoth (P : PlainNode → Type 0) (w : PlainWorld) : Type 0 where
+  pub first : P w.nodes.first
+  pub second : P w.nodes.second
 
 -- so it is before and after each of the events
-abbrev pub ExactAlong : PlainWorld → List Event → Type 0
-ExactAlong w [] = AreExact w
-ExactAlong w (event ∷ events) = AreExact w × ExactAlong (taken w event) events
+abbrev pub OfBothAlong : (PlainNode → Type 0) → PlainWorld → List Event → Type 0
+OfBothAlong P w [] = OfBoth P w
+OfBothAlong P w (event ∷ events) = OfBoth P w × OfBothAlong P (taken w event) events

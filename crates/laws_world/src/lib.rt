@@ -1,13 +1,17 @@
-//! Laws of the specification of two nodes, over every list of events and over the schedule's histories. Each is the
-//! contract of a function without a body of its own.
+//! Laws of the specification of two nodes and the packets between them, over every list of events. Each is the contract of a
+//! function without a body of its own.
 #![tactic(auto)]
 
+mod agreement;
 mod at_rest;
+mod end_points;
+mod packets;
 mod ranks;
 mod runnable;
-mod scheduled;
 
+pub use agreement::parts_agree_in_both_nodes;
 pub use at_rest::no_call_waits_too_long;
+pub use end_points::end_points_are_kept_in_both_nodes;
+pub use packets::packets_are_those_of_the_entries;
 pub use ranks::places_are_ranks;
 pub use runnable::runnable_tasks_are_exact;
-pub use scheduled::serial_is_scheduled;

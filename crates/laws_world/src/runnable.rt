@@ -1,12 +1,14 @@
 ghost use Rattle.std.specs.Prelude.{List};
 ghost use Rattle.it_types.specs.declared.event.Event.{Event};
-ghost use Rattle.spec_world.specs.Schedule.{Plan, opening, world_of};
-ghost use Rattle.laws_world.specs.Taken.{CanOpen, ExactAlong};
+ghost use Rattle.it_types.specs.declared.node_conf.Conf.{Conf};
+ghost use Rattle.spec_world.specs.PlainWorld.{opened_world};
+ghost use Rattle.laws_world.specs.Taken.{CanOpen};
+ghost use Rattle.laws_world.specs.BothNodes.{ExactAlong};
 
 /// Over every list of events, of which those that aren't admitted change nothing: the list of runnable tasks of either node
 /// has each task that is active and has no call that waits, once, and no other (µITRON4.0 section 3.2); no task has two calls
 /// that wait.
-#[tactic(auto, using(crate::proofs::SameSteps::exact_from_opening))]
+#[tactic(auto, using(crate::proofs::Both::exact_from_opening))]
 pub fn runnable_tasks_are_exact()
-    ensures { (plan : Plan) (events : List Event) → CanOpen plan → ExactAlong (world_of (opening plan)) events }
+    ensures { (conf : Conf) (events : List Event) → CanOpen conf → ExactAlong (opened_world conf) events }
 {}

@@ -13,11 +13,12 @@ use Rattle.it_types.specs.declared.answer.Ans.TheVariants as answers
 use Rattle.it_types.specs.declared.mark.Mark.{Mark}
 use Rattle.it_types.specs.declared.mark.Mark.TheVariants as marks
 use Rattle.it_types.specs.declared.entry.CallEnd.{CallEnd}
+use Rattle.it_types.specs.declared.entry.Out.{Out}
 use Rattle.spec_node.specs.declared.event.NodeRequest.{NodeRequest}
 use Rattle.spec_node.specs.declared.event.NodeRequest.TheVariants.{Kernel, Network}
 use Rattle.spec_node.specs.declared.event.NodeEvent.{NodeEvent}
 use Rattle.spec_node.specs.declared.event.NodeEvent.TheVariants.{Call, Return}
-use Rattle.spec_node.specs.PlainNode.{PlainNode, Out, opened_node}
+use Rattle.spec_node.specs.PlainNode.{PlainNode, opened_node}
 use Rattle.spec_node.specs.NodeStep.{node_step}
 use Rattle.spec_node.specs.Admitted.{is_admitted}
 
@@ -67,7 +68,7 @@ receives cep len tmo = Network (UdpRcvDat (record { 0 = cep }) len tmo)
 -- ---- what they give
 
 abbrev pub gives : Ans → List CallEnd → List Mark → List (List ℕ) → Option Out
-gives answer ends marked packets = Some (record { answer = answer; ends = ends; marks = marked; packets = packets })
+gives answer ends marked packets = Some (record { ans = answer; ends = ends; marks = marked; packs = packets })
 
 -- an answer at once, with nothing beside
 abbrev pub code : ℤ → List ℕ → Option Out

@@ -10,6 +10,7 @@ use Rattle.it_types.specs.declared.answer.Ans.TheVariants as answers
 use Rattle.it_types.specs.declared.mark.Mark.{Mark}
 use Rattle.it_types.specs.declared.mark.Mark.TheVariants as marks
 use Rattle.it_types.specs.declared.entry.CallEnd.{CallEnd}
+use Rattle.it_types.specs.declared.entry.Out.{Out}
 use Rattle.spec_lists.specs.Tables.{get}
 use Rattle.spec_kernel.specs.declared.outcome.KAns.{KAns}
 use Rattle.spec_kernel.specs.declared.outcome.KAns.TheVariants as kernel_answers
@@ -26,7 +27,7 @@ use Rattle.spec_node.specs.declared.event.NodeRequest.{NodeRequest}
 use Rattle.spec_node.specs.declared.event.NodeRequest.TheVariants.{Kernel, Network}
 use Rattle.spec_node.specs.declared.event.NodeEvent.{NodeEvent}
 use Rattle.spec_node.specs.declared.event.NodeEvent.TheVariants.{Call, Return, Tick, Arrive}
-use Rattle.spec_node.specs.PlainNode.{PlainNode, Out, running_in}
+use Rattle.spec_node.specs.PlainNode.{PlainNode, running_in}
 use Rattle.spec_node.specs.Progress.{TaskEnd, Progress, after_net, after_kernel, timed_out}
 
 -- ---- answers, ends and marks
@@ -76,10 +77,10 @@ node_after n answer p = record { kernel = p.kernel; net = p.net; held = holding 
 
 abbrev pub out_of : PlainNode → Ans → TaskId → TaskId → Progress → Out
 out_of n answer gone begun p = record {
-  answer = answer;
+  ans = answer;
   ends = map call_end p.ends;
   marks = gone_marks gone ++ (begun_marks begun ++ run_marks (running_in n.kernel) (running_in p.kernel));
-  packets = p.packets;
+  packs = p.packets;
 }
 
 -- the node after an event with this answer, and what it gives
@@ -122,7 +123,7 @@ held_answer None = answers.Quiet
 unfoldable pub returned : PlainNode → TaskId → PlainNode × Out
 returned n task = (
   record n { held = slice_set n.held task.0 None },
-  record { answer = held_answer (get n.held task.0); ends = []; marks = []; packets = [] },
+  record { ans = held_answer (get n.held task.0); ends = []; marks = []; packs = [] },
 )
 
 abbrev pub called : PlainNode → Ctx → NodeRequest → PlainNode × Out

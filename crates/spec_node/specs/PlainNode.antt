@@ -1,11 +1,8 @@
 -- One node: its kernel and its network part, the answers that its tasks have not taken yet, and the numbers of its calls. It
--- is this project's own, as is what an event gives.
+-- is this project's own.
 use Rattle.std.specs.Prelude.{ℕ, Bool, List, Option, is_some}
 use Rattle.it_types.specs.declared.id.TaskId.{TaskId}
 use Rattle.it_types.specs.declared.conf.KConf.{KConf}
-use Rattle.it_types.specs.declared.answer.Ans.{Ans}
-use Rattle.it_types.specs.declared.mark.Mark.{Mark}
-use Rattle.it_types.specs.declared.entry.CallEnd.{CallEnd}
 use Rattle.spec_lists.specs.Tables.{get, empty_table}
 use Rattle.spec_kernel.specs.PlainKernel.{PlainKernel, greatest_id}
 use Rattle.spec_kernel.specs.Tasks.{running}
@@ -18,13 +15,6 @@ pub record PlainNode : Type 0 where
   pub net : PlainNet
   pub held : List (Option Held)  -- by task id
   pub calls : ℕ  -- the call numbers drawn so far
-
--- what an event gives beside the next node: its answer, the ends of calls, the marks, and the packets that go out
-pub record Out : Type 0 where
-  pub answer : Ans
-  pub ends : List CallEnd
-  pub marks : List Mark
-  pub packets : List (List ℕ)
 
 abbrev pub running_in : PlainKernel → TaskId
 running_in k = running k.tasks k.runnable

@@ -1,7 +1,4 @@
-pub mod Examples
-pub mod Handoff
-pub mod Overflow
-pub mod Declarable
 pub mod Events
-pub mod Timeout
-pub mod Deadlines
+pub mod Appending
+pub mod Growth
+pub mod Counts

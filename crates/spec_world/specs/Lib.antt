@@ -1,4 +1,4 @@
-pub mod PlainNode
 pub mod PlainWorld
-pub mod Declarations
-pub mod Schedule
+pub mod Admitted
+pub mod Sizes
+pub mod History

@@ -1,48 +1,83 @@
--- Two nodes, the step of an event, and which events are admitted. It is this project's own.
-use Rattle.std.specs.Prelude.{Bool, true, false, not, ◌&&◌, is_some, nat_le, ◌==◌, if◌then◌else◌}
+-- Two nodes and the packets between them, and the step of an event. It is this project's own.
+use Rattle.std.specs.Prelude.{ℕ, List, [], ◌++◌, Option, Some, None, map, slice_get, ◌==◌, if◌then◌else◌}
 use Rattle.it_types.specs.declared.id.NodeId.{NodeId}
-use Rattle.it_types.specs.declared.id.TaskId.{TaskId}
-use Rattle.it_types.specs.declared.context.Ctx.TheVariants as contexts
+use Rattle.it_types.specs.declared.id.PackNo.{PackNo}
 use Rattle.it_types.specs.declared.event.Event.{Event}
 use Rattle.it_types.specs.declared.event.Event.TheVariants as events
-use Rattle.it_types.specs.declared.answer.Ans.TheVariants as answers
+use Rattle.it_types.specs.declared.answer.Ans.TheVariants.{Quiet}
+use Rattle.it_types.specs.declared.entry.Out.{Out}
 use Rattle.it_types.specs.declared.entry.Entry.{Entry}
-use Rattle.spec_lists.specs.Tables.{get}
-use Rattle.spec_world.specs.PlainNode.{PlainNode, running_task, node_call, node_return, node_tick, plain_entry}
+use Rattle.it_types.specs.declared.node_conf.NodeConf.{NodeConf}
+use Rattle.it_types.specs.declared.node_conf.Conf.{Conf}
+use Rattle.it_types.specs.Configuration.{kernel_conf, first_conf, second_conf}
+use Rattle.spec_node.specs.declared.event.NodeEvent.{NodeEvent}
+use Rattle.spec_node.specs.declared.event.NodeEvent.TheVariants.{Call, Return, Tick, Arrive}
+use Rattle.spec_node.specs.Parts.{part_of}
+use Rattle.spec_node.specs.PlainNode.{PlainNode, opened_node}
+use Rattle.spec_node.specs.NodeStep.{node_step}
 
-pub record PlainWorld : Type 0 where
+pub record Nodes : Type 0 where
   pub first : PlainNode  -- node 0
   pub second : PlainNode  -- node 1
 
-abbrev pub node_at : PlainWorld → NodeId → PlainNode
-node_at w id = if id.0 == 0 then w.first else w.second
+-- a packet that was sent
+pub record Packet : Type 0 where
+  pub sender : NodeId
+  pub bytes : List ℕ
 
--- the world after a step of one node
-abbrev pub with_node : PlainWorld → NodeId → PlainNode × Entry → PlainWorld × Entry
-with_node w id stepped = (record { first = if id.0 == 0 then stepped.0 else w.first; second = if id.0 == 0 then w.second else stepped.0 }, stepped.1)
+pub record PlainWorld : Type 0 where
+  pub nodes : Nodes
+  pub packets : List Packet  -- all that were sent, in the order of sending
+
+-- ---- the nodes
+
+abbrev pub node_at : Nodes → NodeId → PlainNode
+node_at nodes id = if id.0 == 0 then nodes.first else nodes.second
+
+abbrev pub with_node : Nodes → NodeId → PlainNode → Nodes
+with_node nodes id node = record { first = if id.0 == 0 then node else nodes.first; second = if id.0 == 0 then nodes.second else node }
+
+-- the node that the packets of this one reach
+abbrev pub peer_of : NodeId → NodeId
+peer_of id = record { 0 = if id.0 == 0 then 1 else 0 }
+
+-- an event at one node: the nodes after it, and what it gives
+abbrev pub nodes_step : Nodes → NodeId → NodeEvent → Nodes × Out
+nodes_step nodes id event = let stepped = node_step (node_at nodes id) event in (with_node nodes id stepped.0, stepped.1)
+
+-- ---- the step
+
+abbrev pub entry_of : Event → Out → Entry
+entry_of event o = record { ev = event; ans = o.ans; ends = o.ends; marks = o.marks; packs = o.packs }
+
+-- an entry on which nothing follows
+abbrev pub plain_entry : Event → Entry
+plain_entry event = record { ev = event; ans = Quiet; ends = []; marks = []; packs = [] }
+
+abbrev pub packet_from : NodeId → List ℕ → Packet
+packet_from id bytes = record { sender = id; bytes = bytes }
+
+-- an event of the world that is this event at one of its nodes, whose packets are sent
+abbrev pub step_at : PlainWorld → NodeId → NodeEvent → Event → PlainWorld × Entry
+step_at w id node_event event = let stepped = nodes_step w.nodes id node_event in (record { nodes = stepped.0; packets = w.packets ++ map (packet_from id) stepped.1.packs }, entry_of event stepped.1)
+
+-- a packet reaches the node that did not send it
+abbrev pub delivery : PlainWorld → PackNo → Option Packet → PlainWorld × Entry
+delivery w number None = (w, plain_entry (events.Deliver number))
+delivery w number (Some packet) = step_at w (peer_of packet.sender) (Arrive packet.bytes) (events.Deliver number)
 
 -- the step of an event: the world after it and its entry
 unfoldable pub step : PlainWorld → Event → PlainWorld × Entry
-step w (events.Call id ctx request) = with_node w id (node_call id (node_at w id) ctx request)
-step w (events.Return id task) = with_node w id (node_return id (node_at w id) task)
-step w (events.Tick id) = with_node w id (node_tick id (node_at w id))
-step w event = (w, plain_entry event answers.Quiet)
+step w (events.Call id ctx request) = step_at w id (Call ctx (part_of request)) (events.Call id ctx request)
+step w (events.Return id task) = step_at w id (Return task) (events.Return id task)
+step w (events.Tick id) = step_at w id Tick (events.Tick id)
+step w (events.Deliver number) = delivery w number (slice_get w.packets number.0)
+step w event = (w, plain_entry event)
 
-abbrev pub is_node : NodeId → Bool
-is_node id = nat_le id.0 1
+-- ---- the opening
 
--- the task runs on the node
-abbrev pub is_running : PlainNode → TaskId → Bool
-is_running n task = not (task.0 == 0) && (running_task n).0 == task.0
+abbrev pub opened_of : NodeConf → PlainNode
+opened_of conf = opened_node (kernel_conf conf) conf.addr
 
-abbrev pub holds_answer : PlainNode → TaskId → Bool
-holds_answer n task = is_some (get n.held task.0)
-
--- An event is admitted: a call of the running task that holds no answer, the return of the running task that holds one,
--- a tick of either node, and the stop. No handler begins and no packet is sent yet.
-abbrev pub is_admitted : PlainWorld → Event → Bool
-is_admitted w (events.Call id (contexts.Task task) request) = is_node id && (is_running (node_at w id) task && not (holds_answer (node_at w id) task))
-is_admitted w (events.Return id task) = is_node id && (is_running (node_at w id) task && holds_answer (node_at w id) task)
-is_admitted w (events.Tick id) = is_node id
-is_admitted w events.Stop = true
-is_admitted w _ = false
+abbrev pub opened_world : Conf → PlainWorld
+opened_world conf = record { nodes = record { first = opened_of (first_conf conf); second = opened_of (second_conf conf) }; packets = [] }

@@ -1,0 +1,87 @@
+-- After so many events no count of the world is above their number: so where a history has room for an entry more, each
+-- count fits the code's numbers.
+use Rattle.std.proofs.Common.{◌≡◌, ℕ, ◌+◌, ◌<◌, ◌≤◌, true, false, List, [], ◌∷◌, ◌++◌, length, map, Option, Some, None, refl, subst, inl, inr, arith}
+use Rattle.std.specs.Prelude.{◌==◌, slice_get, nat_le}
+use Rattle.std.proofs.lemmas.Bool.{cases_Bool, cases_lt, le-leb}
+use Rattle.std.proofs.lemmas.List.{length-append, length-map}
+use Rattle.it_types.specs.declared.id.NodeId.{NodeId}
+use Rattle.it_types.specs.declared.id.PackNo.{PackNo}
+use Rattle.it_types.specs.declared.event.Event.{Event}
+use Rattle.it_types.specs.declared.event.Event.TheVariants as events
+use Rattle.it_types.specs.declared.entry.Entry.{Entry}
+use Rattle.it_types.specs.declared.node_conf.Conf.{Conf}
+use Rattle.spec_node.specs.declared.event.NodeEvent.{NodeEvent}
+use Rattle.spec_node.specs.declared.event.NodeEvent.TheVariants.{Call, Return, Tick, Arrive}
+use Rattle.spec_node.specs.PlainNode.{PlainNode}
+use Rattle.spec_node.specs.Parts.{part_of}
+use Rattle.spec_node.specs.NodeStep.{node_step}
+use Rattle.spec_world.specs.PlainWorld.{Packet, PlainWorld, packet_from, peer_of, step_at, delivery, step, opened_world}
+use Rattle.spec_world.specs.Sizes.{entry_limit, is_full}
+use Rattle.spec_world.specs.History.{after}
+use Rattle.spec_world.proofs.Growth.{node_steps_on}
+
+pub record IsWithin (m : ℕ) (n : PlainNode) : Type 0 where
+  pub calls : n.calls ≤ m
+  pub now : n.kernel.now ≤ m
+
+-- the call numbers and the ticks of each node, and the packets, are at most m
+pub record AreWithin (m : ℕ) (w : PlainWorld) : Type 0 where
+  pub first : IsWithin m w.nodes.first
+  pub second : IsWithin m w.nodes.second
+  pub packets : length w.packets ≤ m
+
+node_within : (m : ℕ) (n : PlainNode) → IsWithin m n → IsWithin (m + 1) n
+node_within m n h = record { calls = omega (arith, h.calls); now = omega (arith, h.now) }
+
+within_more : (m : ℕ) (w : PlainWorld) → AreWithin m w → AreWithin (m + 1) w
+within_more m w h = record { first = node_within m w.nodes.first h.first; second = node_within m w.nodes.second h.second; packets = omega (arith, h.packets) }
+
+node_step_within : (m : ℕ) (n : PlainNode) (event : NodeEvent) → IsWithin m n → IsWithin (m + 1) (node_step n event).0
+node_step_within m n event h = let on = node_steps_on n event in record { calls = omega (arith, on.calls, h.calls); now = omega (arith, on.now, h.now) }
+
+packets_more : (m : ℕ) (packets : List Packet) (id : NodeId) (sent : List (List ℕ)) → length packets ≤ m → length sent ≤ 1 → length (packets ++ map (packet_from id) sent) ≤ m + 1
+packets_more m packets id sent le few = omega (arith, length-append packets (map (packet_from id) sent), length-map sent (packet_from id))
+
+step_at_within : (m : ℕ) (w : PlainWorld) (id : NodeId) (node_event : NodeEvent) (event : Event) → AreWithin m w → AreWithin (m + 1) (step_at w id node_event event).0
+step_at_within m w id node_event event h = elim (cases_Bool (id.0 == 0)) [
+  | inl t ↦ rw t (record {
+    first = node_step_within m w.nodes.first node_event h.first;
+    second = node_within m w.nodes.second h.second;
+    packets = packets_more m w.packets id (node_step w.nodes.first node_event).1.packs h.packets (node_steps_on w.nodes.first node_event).packs;
+  })
+  | inr f ↦ rw f (record {
+    first = node_within m w.nodes.first h.first;
+    second = node_step_within m w.nodes.second node_event h.second;
+    packets = packets_more m w.packets id (node_step w.nodes.second node_event).1.packs h.packets (node_steps_on w.nodes.second node_event).packs;
+  })
+]
+
+delivery_within : (m : ℕ) (w : PlainWorld) (number : PackNo) (found : Option Packet) → AreWithin m w → AreWithin (m + 1) (delivery w number found).0
+delivery_within m w number None h = within_more m w h
+delivery_within m w number (Some packet) h = step_at_within m w (peer_of packet.sender) (Arrive packet.bytes) (events.Deliver number) h
+
+pub step_within : (m : ℕ) (w : PlainWorld) (event : Event) → AreWithin m w → AreWithin (m + 1) (step w event).0
+unfolding step
+step_within m w (events.Call id ctx request) h = step_at_within m w id (Call ctx (part_of request)) (events.Call id ctx request) h
+step_within m w (events.Return id task) h = step_at_within m w id (Return task) (events.Return id task) h
+step_within m w (events.Tick id) h = step_at_within m w id Tick (events.Tick id) h
+step_within m w (events.Begin id) h = within_more m w h
+step_within m w (events.Finish id) h = within_more m w h
+step_within m w (events.Deliver number) h = delivery_within m w number (slice_get w.packets number.0) h
+step_within m w events.Stop h = within_more m w h
+
+after_within : (m : ℕ) (w : PlainWorld) (es : List Entry) → AreWithin m w → AreWithin (m + length es) (after w es)
+after_within m w [] h = subst (λ k. AreWithin k w) (omega arith) h
+after_within m w (e ∷ es) h = subst (λ k. AreWithin k (after (step w e.ev).0 es)) (omega arith) (after_within (m + 1) (step w e.ev).0 es (step_within m w e.ev h))
+
+-- after the events of a history no count is above its length
+pub within_length : (conf : Conf) (log : List Entry) → AreWithin (length log) (after (opened_world conf) log)
+within_length conf log = subst (λ k. AreWithin k (after (opened_world conf) log)) (omega arith)
+    (after_within 0 (opened_world conf) log (record { first = record { calls = omega arith; now = omega arith }; second = record { calls = omega arith; now = omega arith }; packets = omega arith }))
+
+-- a history with room is shorter than the limit
+pub room_short : (log : List Entry) → is_full log ≡ false → length log < entry_limit
+room_short log room = elim (cases_lt (length log) entry_limit) [
+  | inl lt ↦ lt
+  | inr le ↦ absurd (let full : nat_le entry_limit (length log) ≡ true = le-leb entry_limit (length log) le in let all : is_full log ≡ true = rw full refl in cc)
+]
