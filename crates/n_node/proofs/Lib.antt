@@ -1,0 +1,8 @@
+mod Returned
+mod Successes
+mod Moving
+mod Timing
+mod Telling
+mod Keeping
+mod Steps
+mod Networking

@@ -1,0 +1,95 @@
+ghost use Rattle.std.specs.Prelude.{◌≡◌, ◌≢◌, ◌<◌, ◌≤◌, ◌+◌, ◌-◌, ◌^◌, IfOk};
+ghost use Rattle.it_types.specs.declared.context.Ctx.TheVariants.{Task as InTask};
+ghost use Rattle.spec_node.specs.declared.event.NodeRequest.TheVariants.{Kernel as OfKernel};
+ghost use Rattle.spec_node.specs.declared.event.NodeEvent.TheVariants.{Call as Called};
+ghost use Rattle.spec_node.specs.Parts.{part_of};
+ghost use Rattle.spec_node.specs.PlainNode.{running_in};
+ghost use Rattle.spec_node.specs.NodeStep.{node_step, kernel_answer, drawn};
+ghost use Rattle.n_node.specs.Plain.{plain};
+ghost use Rattle.n_node.specs.Kept.{Kept};
+
+use crate::told::Turn;
+use crate::{Parts, Told};
+use it_types::{Ans, Bytes, CallNo, Ctx, KReq, NoMemory, Out, Req, TaskId};
+use k_core::KAns;
+use std::alloc::Global;
+
+/// The answer of the kernel, as the node tells it: a call that waits has its number there.
+fn kernel_answer(alloc: Global, number: CallNo, answer: &KAns) -> Result<Ans, NoMemory>
+    ensures { IfOk result (λ a. a ≡ kernel_answer number.0 answer.now) }
+{
+    match answer {
+        KAns::Now(code, bytes) => Ok(Ans::Now(*code, Bytes::of(alloc, bytes.as_slice())?)),
+        KAns::Pends => Ok(Ans::Pends(number)),
+        KAns::Quiet => Ok(Ans::Quiet),
+    }
+}
+
+/// The numbers drawn after an answer: one more where a call waits.
+fn calls_after(calls: u32, answer: &Ans) -> u32
+    requires { calls < 2 ^ 32 - 1 }
+    ensures { result ≡ calls + drawn answer.now }
+{
+    match answer {
+        Ans::Pends(_) => calls + 1,
+        _ => calls,
+    }
+}
+
+impl Parts {
+    /// The running task makes a call.
+    pub(crate) fn call(&mut self, alloc: Global, by: TaskId, request: &Req) -> Result<Out, NoMemory>
+        requires kept { Kept (plain self.old) }
+        requires some { by.0 ≢ 0 }
+        requires runs { running_in self.old.kernel ≡ by }
+        requires calls { self.old.calls < 2 ^ 31 - 1 }
+        requires now { self.old.kernel.now < 2 ^ 59 }
+        ensures { IfOk result (λ o. node_step (plain self.old) (Called (InTask by) (part_of request.now)) ≡ (plain self.new, o)) }
+    {
+        match request {
+            Req::ExtTsk => self.call_kernel(alloc, by, &KReq::ExtTsk),
+            Req::DlyTsk { ms } => self.call_kernel(alloc, by, &KReq::DlyTsk { ms: *ms }),
+            Req::SigSem { sem } => self.call_kernel(alloc, by, &KReq::SigSem { sem: *sem }),
+            Req::TwaiSem { sem, tmo } => {
+                let request = KReq::TwaiSem {
+                    sem: *sem,
+                    tmo: *tmo,
+                };
+                self.call_kernel(alloc, by, &request)
+            }
+            Req::UdpCreCep { cep, port, cbr } => self.udp_cre_cep(alloc, by, *cep, *port, *cbr),
+            Req::UdpSndDat {
+                cep,
+                dest,
+                load,
+                tmo,
+            } => self.udp_snd_dat(alloc, by, *cep, *dest, load.as_slice(), *tmo),
+            Req::UdpRcvDat { cep, len, tmo } => self.udp_rcv_dat(alloc, by, *cep, *len, *tmo),
+        }
+    }
+
+    /// The running task makes a call of the kernel: if it waits it gets the next number.
+    fn call_kernel(&mut self, alloc: Global, by: TaskId, request: &KReq) -> Result<Out, NoMemory>
+        requires last_call { self.old.kernel.last_call ≤ self.old.calls }
+        requires some { by.0 ≢ 0 }
+        requires runs { running_in self.old.kernel ≡ by }
+        requires calls { self.old.calls < 2 ^ 31 - 1 }
+        requires now { self.old.kernel.now < 2 ^ 59 }
+        ensures { IfOk result (λ o. node_step (plain self.old) (Called (InTask by) (OfKernel request.now)) ≡ (plain self.new, o)) }
+    {
+        let before = self.kernel.running();
+        let number = CallNo(self.calls + 1);
+        let done = self.kernel.call(Ctx::Task(by), request, number);
+        let ans = kernel_answer(alloc, number, &done.ans)?;
+        self.calls = calls_after(self.calls, &ans);
+        let mut told = Told::nothing(alloc);
+        self.take_kernel_ends(alloc, &mut told, done.ends.as_slice())?;
+        let turn = Turn {
+            gone: done.gone,
+            begun: done.begun,
+            before,
+            after: self.kernel.running(),
+        };
+        told.out(alloc, ans, turn)
+    }
+}

@@ -1,0 +1,57 @@
+//! The answers that tasks hold until they return.
+
+ghost use Rattle.std.specs.Prelude.{◌≡◌, IfOk, None, Some, slice_set};
+ghost use Rattle.spec_lists.specs.Tables.{get, empty_table};
+ghost use Rattle.spec_kernel.specs.PlainKernel.{greatest_id};
+ghost use Rattle.spec_node.specs.NodeStep.{held_answer};
+
+use it_types::{Ans, NoMemory, TaskId};
+use spec_node::Held;
+use std::alloc::Global;
+
+/// The places of a table of tasks: the ids from 1 to 16, and the empty place 0.
+pub const TASK_PLACES: usize = 17;
+
+/// No task holds an answer.
+pub fn no_answers(alloc: Global) -> Result<Vec<Option<Held>>, NoMemory>
+    ensures { IfOk result (λ held. held.items ≡ empty_table greatest_id) }
+{
+    let mut held = Vec::with_capacity(alloc, TASK_PLACES)?;
+    for _ in 0..TASK_PLACES {
+        held.push(None)?;
+    }
+    Ok(held)
+}
+
+/// Takes the answer that the task holds.
+pub fn take_answer(held: &mut Vec<Option<Held>>, task: TaskId) -> Option<Held>
+    ensures answer { result ≡ get held.old.items task.0 }
+    ensures after { held.new.items ≡ slice_set held.old.items task.0 None }
+{
+    let place = task.0 as usize;
+    if place < held.len() {
+        held[place].take()
+    } else {
+        None
+    }
+}
+
+/// The task holds this answer.
+pub fn hold(held: &mut Vec<Option<Held>>, task: TaskId, answer: Held)
+    ensures { held.new.items ≡ slice_set held.old.items task.0 (Some answer) }
+{
+    let place = task.0 as usize;
+    if place < held.len() {
+        held[place] = Some(answer);
+    }
+}
+
+/// What a task that holds this returns with.
+pub fn held_answer(held: Option<Held>) -> Ans
+    ensures { result ≡ held_answer held }
+{
+    match held {
+        Some(held) => Ans::Now(held.code, held.bytes),
+        None => Ans::Quiet,
+    }
+}

@@ -1,0 +1,42 @@
+ghost use Rattle.std.specs.Prelude.{◌≡◌, ◌<◌, ◌^◌, IfOk, OnOk};
+ghost use Rattle.spec_node.specs.declared.event.NodeEvent.TheVariants.{Tick as Ticked};
+ghost use Rattle.spec_node.specs.Progress.{timed_out};
+ghost use Rattle.spec_node.specs.NodeStep.{node_step};
+ghost use Rattle.n_node.specs.Plain.{plain};
+ghost use Rattle.n_node.specs.Coming.{Moves};
+
+use crate::told::Turn;
+use crate::{Parts, Told};
+use it_types::{Ans, NoMemory, Out, TaskId};
+use std::alloc::Global;
+
+impl Parts {
+    /// A tick of the node's clock, and the ends of all calls whose deadline is at or before it.
+    pub(crate) fn tick(&mut self, alloc: Global) -> Result<Out, NoMemory>
+        requires { self.old.kernel.now < 2 ^ 59 }
+        ensures { IfOk result (λ o. node_step (plain self.old) Ticked ≡ (plain self.new, o)) }
+    {
+        let before = self.kernel.running();
+        self.kernel.tick();
+        let mut told = Told::nothing(alloc);
+        self.end_past(alloc, &mut told)?;
+        let turn = Turn {
+            gone: TaskId(0),
+            begun: TaskId(0),
+            before,
+            after: self.kernel.running(),
+        };
+        told.out(alloc, Ans::Quiet, turn)
+    }
+
+    /// Ends all calls whose deadline is at or before now, by rising number (µITRON4.0 section 2.1, time-outs; 4.2,
+    /// `dly_tsk`).
+    fn end_past(&mut self, alloc: Global, told: &mut Told) -> Result<(), NoMemory>
+        ensures { OnOk result (Moves self.old told.old self.new told.new timed_out) }
+    {
+        while let Some(end) = self.kernel.due() {
+            self.take_kernel_end(alloc, told, &end)?;
+        }
+        Ok(())
+    }
+}

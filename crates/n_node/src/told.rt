@@ -1,0 +1,84 @@
+//! What an event tells.
+
+ghost use Rattle.std.specs.Prelude.{◌≡◌, [], ◌∷◌, ◌++◌, IfOk, OnOk};
+ghost use Rattle.spec_node.specs.NodeStep.{gone_marks, begun_marks, run_marks};
+
+use it_types::{Ans, Bytes, CallEnd, List, Mark, NoMemory, Out, TaskId};
+use std::alloc::Global;
+
+/// What an event has told so far: the ends of calls in their order, and the packets that go out.
+#[derive(Debug, Drop)]
+pub struct Told {
+    pub ends: List<CallEnd>,
+    pub packs: List<Bytes>,
+}
+
+/// The tasks of the marks of an event, 0 for none: the one that ended, the one that began, and those that ran before the
+/// event and after it.
+#[derive(Clone, Copy, Debug)]
+pub struct Turn {
+    pub gone: TaskId,
+    pub begun: TaskId,
+    pub before: TaskId,
+    pub after: TaskId,
+}
+
+impl Told {
+    /// Nothing is told yet.
+    pub(crate) fn nothing(alloc: Global) -> Told
+        ensures ends { result.ends ≡ [] }
+        ensures packets { result.packs ≡ [] }
+    {
+        Told {
+            ends: List::new(alloc),
+            packs: List::new(alloc),
+        }
+    }
+
+    /// The packets go out after those that went out before.
+    pub(crate) fn send(&mut self, packs: List<Bytes>) -> Result<(), NoMemory>
+        ensures ends { OnOk result (self.new.ends ≡ self.old.ends) }
+        ensures packets { OnOk result (self.new.packs ≡ self.old.packs ++ packs) }
+    {
+        for packet in packs.into_vec() {
+            self.packs.push(packet)?;
+        }
+        Ok(())
+    }
+
+    /// All that an event with this answer tells.
+    pub(crate) fn out(self, alloc: Global, ans: Ans, turn: Turn) -> Result<Out, NoMemory>
+        ensures { IfOk result (λ o. o ≡ record {
+          ans = ans;
+          ends = self.ends;
+          marks = gone_marks turn.gone ++ (begun_marks turn.begun ++ run_marks turn.before turn.after);
+          packs = self.packs;
+        }) }
+    {
+        let marks = marks_of(alloc, turn)?;
+        let Told { ends, packs } = self;
+        Ok(Out {
+            ans,
+            ends,
+            marks,
+            packs,
+        })
+    }
+}
+
+/// The marks of an event: the task that ended, the one that began, and the one that runs from now on.
+fn marks_of(alloc: Global, turn: Turn) -> Result<List<Mark>, NoMemory>
+    ensures { IfOk result (λ list. list ≡ gone_marks turn.gone ++ (begun_marks turn.begun ++ run_marks turn.before turn.after)) }
+{
+    let mut list = List::new(alloc);
+    if turn.gone.0 != 0 {
+        list.push(Mark::Gone { task: turn.gone })?;
+    }
+    if turn.begun.0 != 0 {
+        list.push(Mark::Begun { task: turn.begun })?;
+    }
+    if turn.after.0 != turn.before.0 {
+        list.push(Mark::Run { task: turn.after })?;
+    }
+    Ok(list)
+}
