@@ -1,0 +1,4 @@
+mod Places
+mod Taken
+mod Keeping
+mod Stopping
