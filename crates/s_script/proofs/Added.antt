@@ -1,17 +1,19 @@
 -- A line that may stand in its place is added to the lines of the draft.
-use Rattle.std.proofs.Common.{◌≡◌, ℕ, true, false, [], ◌∷◌, ◌++◌, Option, Some, None, unwrap_or, refl, append_assoc}
+use Rattle.std.proofs.Common.{◌≡◌, ℕ, true, false, not, [], ◌∷◌, ◌++◌, Option, Some, None, is_some, unwrap_or, refl, sym, ap, ◌∙◌, append_assoc}
+use Rattle.std.specs.List.{flat_map}
 use Rattle.std.proofs.lemmas.Bool.{and_parts}
 use Rattle.std.proofs.lemmas.List.{append-nil, map-append}
 use Rattle.std.proofs.lemmas.List.Concat.{flat_map-append}
 use Rattle.spec_script.specs.declared.script_line.ScriptLine.{ScriptLine}
 use Rattle.spec_script.specs.declared.script_line.ScriptLine.TheVariants.{Itron, Link, Ticks, FirstNode, SecondNode, Sem, Task, Call, End}
 use Rattle.spec_script.specs.declared.script_line.NodeLine.{NodeLine}
-use Rattle.spec_script.specs.Lines.{node_line}
+use Rattle.spec_script.specs.declared.script.NodeDecl.{NodeDecl}
+use Rattle.spec_script.specs.Lines.{node_line, declaration_lines}
 use Rattle.spec_script.specs.Ranges.{within, is_at_most, is_node_in_range, is_in_range}
 use Rattle.s_script.specs.declared.draft.Stage.{Stage}
 use Rattle.s_script.specs.declared.draft.Stage.TheVariants.{Start, Headed, Linked, Timed, Declares, InTask}
 use Rattle.s_script.specs.declared.draft.Draft.{Draft}
-use Rattle.s_script.specs.Drafts.{lines_at, in_place, node_of, moved}
+use Rattle.s_script.specs.Drafts.{head_of, lines_before, begun, lines_at, is_last, in_place, node_of, moved}
 
 -- ---- numbers in their ranges are there
 
@@ -36,10 +38,25 @@ node_options addr isn0 top0 range =
 pub node_is : (n : NodeLine) → is_node_in_range n ≡ true → node_line (node_of n) ≡ n
 node_is n range = node_options n.addr n.isn0 n.top0 range
 
+-- what is not there is nothing
+pub none_is : {A : Type 0} (o : Option A) → not (is_some o) ≡ true → o ≡ None
+none_is None e = refl
+none_is (Some x) e = absurd (let none : false ≡ true = e in cc)
+
 -- ---- one clause for each line in its place
 
+-- node 1 begins after the declarations of node 0
+second_added : (d : Draft) (n : NodeLine) → d.first ≡ None → is_node_in_range n ≡ true → lines_at Declares (moved d (SecondNode n)) ≡ lines_at Declares d ++ (SecondNode n ∷ [])
+second_added d n none range =
+    let ds = flat_map declaration_lines d.node.decls in
+    let head = head_of d.key d.ticks (node_line d.node) in
+    append-nil (head ++ (ds ++ (SecondNode (node_line (node_of n)) ∷ [])))
+    ∙ ap (λ (m : NodeLine). head ++ (ds ++ (SecondNode m ∷ []))) (node_is n range)
+    ∙ sym (append_assoc head ds (SecondNode n ∷ []))
+    ∙ ap (λ (o : Option NodeDecl). (lines_before d.key d.ticks o (node_line d.node) ++ ds) ++ (SecondNode n ∷ [])) (sym none)
+
 -- a line in its place and its ranges is the next line of the draft
-pub added : (stage : Stage) (d : Draft) (l : ScriptLine) → in_place stage l ≡ true → is_in_range l ≡ true → lines_at (moved d l).stage (moved d l) ≡ lines_at stage d ++ (l ∷ [])
+pub added : (stage : Stage) (d : Draft) (l : ScriptLine) → in_place stage (is_last d) l ≡ true → is_in_range l ≡ true → lines_at (moved d l).stage (moved d l) ≡ lines_at stage d ++ (l ∷ [])
 added Start d Itron place range = refl
 added Headed d (Link key) place range = rw (within_is 0 key _ range) refl
 added Linked d (Ticks ticks) place range = rw (within_is 0 ticks _ range) refl
@@ -47,11 +64,11 @@ added Timed d (FirstNode n) place range = rw (node_is n range) refl
 added Declares d (Sem id init max) place range =
     let bounds = and_parts (within 1 id 16) _ range in
     let counts = and_parts (is_at_most init max) (within 1 max 65535) bounds.1 in
-    rw (flat_map-append, within_is 1 id _ bounds.0, at_most_is init max counts.0, within_is 1 max _ counts.1) refl
+    rw (flat_map-append, within_is 1 id _ bounds.0, at_most_is init max counts.0, within_is 1 max _ counts.1) (sym (append_assoc (begun d) (flat_map declaration_lines d.node.decls) (Sem id init max ∷ [])))
 added Declares d (Task id pri) place range =
     let bounds = and_parts (within 1 id 16) (within 1 pri 16) range in
-    rw (within_is 1 id _ bounds.0, within_is 1 pri _ bounds.1) refl
-added Declares d (SecondNode n) place range = rw (node_is n range) refl
+    rw (within_is 1 id _ bounds.0, within_is 1 pri _ bounds.1) (sym (append_assoc (begun d) (flat_map declaration_lines d.node.decls) (Task id pri ∷ [])))
+added Declares d (SecondNode n) place range = second_added d n (none_is d.first place) range
 added InTask d (Call request true) place range = simp (map-append, append_assoc)
 added InTask d (Call request false) place range = absurd (let none : false ≡ true = range in cc)
 added InTask d End place range = simp (flat_map-append, append_assoc, append-nil)

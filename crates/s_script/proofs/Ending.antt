@@ -6,9 +6,10 @@ use Rattle.spec_script.specs.declared.script_line.ScriptLine.{ScriptLine}
 use Rattle.spec_script.specs.declared.script_line.ScriptLine.TheVariants.{Itron, Link, Ticks, FirstNode, SecondNode, End}
 use Rattle.spec_script.specs.declared.script_line.NodeLine.{NodeLine}
 use Rattle.s_script.specs.declared.draft.Stage.{Stage}
-use Rattle.s_script.specs.declared.draft.Stage.TheVariants.{Start, Headed, Linked, Timed, Declares, InTask, Whole}
+use Rattle.s_script.specs.declared.draft.Stage.TheVariants.{Start, Headed, Linked, Timed, Declares, InTask}
 use Rattle.s_script.specs.declared.draft.Draft.{Draft}
-use Rattle.s_script.specs.Drafts.{lines_at, moved}
+use Rattle.s_script.specs.Drafts.{lines_at, is_last, moved}
+use Rattle.s_script.specs.Reading.{is_whole}
 use Rattle.s_script.proofs.Added.{added}
 use Rattle.s_script.proofs.Kept.{Passes, Kept, kept}
 use Rattle.s_script.proofs.LineTakes.{is_written}
@@ -18,7 +19,7 @@ pub record Ends (d : Draft) : Type 0 where
   pub last : Draft
   pub more : List ScriptLine
   pub keeps : Kept last
-  pub whole : last.stage ≡ Whole
+  pub whole : is_whole last.stage (is_last last) ≡ true
   pub grown : lines_at last.stage last ≡ lines_at d.stage d ++ more
 
 -- a line that passes, and the end of what follows it
@@ -57,16 +58,24 @@ other_is addr =
 
 -- ---- from the last stage to the first
 
--- after the last line nothing is missing
-from_whole : (d : Draft) → d.stage ≡ Whole → Kept d → Ends d
-from_whole d e k = record { last = d; more = []; keeps = k; whole = e; grown = sym (append-nil (lines_at d.stage d)) }
+-- in node 1, between declarations, nothing is missing
+from_last : (d : Draft) → is_whole d.stage (is_last d) ≡ true → Kept d → Ends d
+from_last d e k = record { last = d; more = []; keeps = k; whole = e; grown = sym (append-nil (lines_at d.stage d)) }
 
--- between declarations node 1 is missing
+-- in node 0 node 1 is missing
+from_first : (d : Draft) → d.stage ≡ Declares → is_last d ≡ false → Kept d → Ends d
+from_first d e f k =
+    let own = other_is d.node.addr in
+    let n = node_at (other_than d.node.addr) in
+    ends_with d (SecondNode n) k (record { place = rw (e, f) refl; range = rw own.1 refl; room = rw own.0 refl; fresh = refl }) refl (from_last (moved d (SecondNode n)) refl)
+
+-- between declarations of either node
 from_declares : (d : Draft) → d.stage ≡ Declares → Kept d → Ends d
 from_declares d e k =
-    let own = other_is d.first.addr in
-    let n = node_at (other_than d.first.addr) in
-    ends_with d (SecondNode n) k (record { place = rw e refl; range = rw own.1 refl; room = rw own.0 refl; fresh = refl }) refl (from_whole (moved d (SecondNode n)) refl)
+    elim (cases_Bool (is_last d)) [
+      | inl t ↦ from_last d (rw (e, t) refl) k
+      | inr f ↦ from_first d e f k
+    ]
 
 -- in a body `end` is missing, and then node 1
 from_task : (d : Draft) → d.stage ≡ InTask → Kept d → Ends d
@@ -96,7 +105,6 @@ by_stage Linked d e k = from_linked d e k
 by_stage Timed d e k = from_timed d e k
 by_stage Declares d e k = from_declares d e k
 by_stage InTask d e k = from_task d e k
-by_stage Whole d e k = from_whole d e k
 
 -- each draft that keeps what drafts keep can be ended
 pub ends : (d : Draft) → Kept d → Ends d

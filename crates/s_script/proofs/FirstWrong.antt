@@ -9,17 +9,16 @@ use Rattle.spec_script.specs.Lines.{line_text, lines_of}
 use Rattle.spec_script.specs.Text.{split_lines, is_skipped}
 use Rattle.s_script.specs.declared.read_bad.Why.{Why}
 use Rattle.s_script.specs.declared.read_bad.Why.TheVariants.{Missing}
-use Rattle.s_script.specs.declared.draft.Stage.{Stage}
 use Rattle.s_script.specs.declared.draft.Draft.{Draft}
 use Rattle.s_script.specs.LineKinds.{line_of}
-use Rattle.s_script.specs.Drafts.{start, script_of, lines_at, cause, moved}
+use Rattle.s_script.specs.Drafts.{start, script_of, lines_at, is_last, cause, moved}
 use Rattle.s_script.specs.Reading.{with_cause, with_line, take_line, is_whole, at_end_of_text, at_line, go_on, read_from, finished, read_text}
 use Rattle.s_script.specs.FirstWrong.{first_lines, IsFront}
 use Rattle.s_script.proofs.Added.{added}
 use Rattle.s_script.proofs.Kept.{Passes, no_cause, Kept, start_kept, kept}
-use Rattle.s_script.proofs.Led.{took, is_kept, taken, good}
-use Rattle.s_script.proofs.LineTakes.{line_takes}
-use Rattle.s_script.proofs.LineAgain.{line_again}
+use Rattle.s_script.proofs.Led.{took, is_kept, taken, whole_lines, good}
+use Rattle.s_script.proofs.EachTakes.{line_takes}
+use Rattle.s_script.proofs.EachAgain.{line_again}
 use Rattle.s_script.proofs.ScriptRuns.{Runs, Makes, script_runs}
 use Rattle.s_script.proofs.ReadBack.{texts_of, first_line}
 use Rattle.s_script.proofs.Ending.{ends}
@@ -71,7 +70,7 @@ ended_at false d number at why e = refused_is number at Missing why e
 
 -- at the end of the text only an end is missing
 at_end_is : (number : ℕ) (d : Draft) (rest : List ℕ) (at : ℕ) (why : Why) → at_end_of_text number d rest ≡ refused at why → (number ≡ at) × (Missing ≡ why)
-at_end_is number d [] at why e = ended_at (is_whole d.stage) d number at why e
+at_end_is number d [] at why e = ended_at (is_whole d.stage (is_last d)) d number at why e
 at_end_is number d (b ∷ rest) at why e = refused_is number at Missing why e
 
 -- a line that went well, or did not
@@ -174,7 +173,7 @@ stopped number d rest (line ∷ lines) at why h k =
 front : (d : Draft) (read : List ScriptLine) → Kept d → lines_at d.stage d ≡ read → IsFront (texts_of read)
 front d read k same =
     let e = ends d k in
-    let lines : lines_of (script_of e.last) ≡ read ++ e.more = sym (ap (λ (stage : Stage). lines_at stage e.last) e.whole) ∙ e.grown ∙ ap (λ (ls : List ScriptLine). ls ++ e.more) same in
+    let lines : lines_of (script_of e.last) ≡ read ++ e.more = sym (whole_lines e.last e.whole) ∙ e.grown ∙ ap (λ (ls : List ScriptLine). ls ++ e.more) same in
     record { script = script_of e.last; good = good e.last e.keeps e.whole; more = texts_of e.more; whole = ap texts_of lines ∙ map-append line_text read e.more }
 
 -- ---- with the wrong line

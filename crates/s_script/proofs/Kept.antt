@@ -1,20 +1,21 @@
 -- What a draft keeps, line after line.
-use Rattle.std.proofs.Common.{◌≡◌, ◌≢◌, ◌≤◌, Bool, true, false, not, ◌&&◌, cond, eqb, List, [], ◌∷◌, ◌++◌, length, Some, None, unwrap_or, refl, append_assoc, arith}
+use Rattle.std.proofs.Common.{◌≡◌, ◌≢◌, ℕ, ◌≤◌, Bool, true, false, not, ◌&&◌, cond, eqb, List, [], ◌∷◌, ◌++◌, length, Option, Some, None, unwrap_or, refl, append_assoc, arith}
 use Rattle.std.specs.List.{list_all, list_any}
 use Rattle.std.proofs.lemmas.Bool.{and_parts, not-true, eqb-false, ltb-true, le-leb}
 use Rattle.std.proofs.lemmas.List.{append-nil, length_push}
 use Rattle.std.proofs.lemmas.List.Folds.{list_all-append}
 use Rattle.it_types.specs.declared.request.Req.{Req}
+use Rattle.spec_script.specs.declared.script.NodeDecl.{NodeDecl}
 use Rattle.spec_script.specs.declared.decl.Decl.{Decl}
 use Rattle.spec_script.specs.declared.decl.Line.TheVariants as body_lines
 use Rattle.spec_script.specs.declared.script_line.ScriptLine.{ScriptLine}
 use Rattle.spec_script.specs.declared.script_line.ScriptLine.TheVariants.{Itron, Link, Ticks, FirstNode, SecondNode, Sem, Task, Call, End}
-use Rattle.spec_script.specs.Ranges.{is_in_range, is_task, is_repeated, is_written_line, is_written_declaration, are_distinct}
+use Rattle.spec_script.specs.Ranges.{is_in_range, is_task, is_repeated, is_written_line, is_written_declaration, are_distinct, AreGood}
 use Rattle.s_script.specs.declared.read_bad.Why.TheVariants.{Form, Range, Twice}
 use Rattle.s_script.specs.declared.draft.Stage.{Stage}
-use Rattle.s_script.specs.declared.draft.Stage.TheVariants.{InTask, Whole}
+use Rattle.s_script.specs.declared.draft.Stage.TheVariants.{InTask}
 use Rattle.s_script.specs.declared.draft.Draft.{Draft}
-use Rattle.s_script.specs.Drafts.{start, lines_at, in_place, has_room, is_declared, cause, moved}
+use Rattle.s_script.specs.Drafts.{start, lines_at, is_last, in_place, has_room, is_declared, cause, moved}
 use Rattle.s_script.proofs.Added.{added}
 use Rattle.s_script.proofs.LineTakes.{is_written}
 
@@ -22,7 +23,7 @@ use Rattle.s_script.proofs.LineTakes.{is_written}
 
 -- the line passes each test
 pub record Passes (d : Draft) (l : ScriptLine) : Type 0 where
-  pub place : in_place d.stage l ≡ true
+  pub place : in_place d.stage (is_last d) l ≡ true
   pub range : is_in_range l ≡ true
   pub room : has_room d l ≡ true
   pub fresh : is_declared d l ≡ false
@@ -45,7 +46,7 @@ tests_pass false range room twice e = absurd cc
 -- a line with no cause passes
 pub passes : (d : Draft) (l : ScriptLine) → cause d l ≡ None → Passes d l
 passes d l e =
-    let tests = tests_pass (in_place d.stage l) (is_in_range l) (has_room d l) (is_declared d l) e in
+    let tests = tests_pass (in_place d.stage (is_last d) l) (is_in_range l) (has_room d l) (is_declared d l) e in
     record { place = tests.place_true; range = tests.range_true; room = tests.room_true; fresh = tests.twice_false }
 
 -- a line that passes has no cause
@@ -54,26 +55,33 @@ no_cause d l p = rw (p.place, p.range, p.room, p.fresh) refl
 
 -- ---- what is kept
 
--- what a stage keeps: the open task is new, and node 1 has an address of its own
+-- what a stage keeps: the open task is new
 abbrev pub AtStage : Stage → Draft → Type 0
-AtStage InTask d = list_any (is_task d.task.id) d.first.decls ≡ false
-AtStage Whole d = d.second.addr ≢ d.first.addr
+AtStage InTask d = list_any (is_task d.task.id) d.node.decls ≡ false
 AtStage _ d = Unit {0}
+
+-- node 0 is good where node 1 has begun, and has another address
+abbrev pub IsAfter : Option NodeDecl → ℕ → Type 0
+IsAfter None addr = Unit {0}
+IsAfter (Some n) addr = AreGood n.decls × (addr ≢ n.addr)
 
 -- what a draft keeps
 pub record Kept (d : Draft) : Type 0 where
   pub ranges : list_all is_in_range (lines_at d.stage d) ≡ true
-  pub written : list_all is_written_declaration d.first.decls ≡ true
-  pub distinct : are_distinct [] d.first.decls ≡ true
+  pub before : IsAfter d.first d.node.addr
+  pub good : AreGood d.node.decls
   pub activated : d.task.act ≡ true
   pub calls : list_all is_written_line d.body ≡ true
   pub short : length d.body ≤ 1000
-  pub bare : d.second.decls ≡ []
   pub at_stage : AtStage d.stage d
+
+-- no declarations are good
+none_good : AreGood []
+none_good = record { written = refl; distinct = refl }
 
 -- the draft before the first line keeps it
 pub start_kept : Kept start
-start_kept = record { ranges = refl; written = refl; distinct = refl; activated = refl; calls = refl; short = omega arith; bare = refl; at_stage = tt }
+start_kept = record { ranges = refl; before = tt; good = none_good; activated = refl; calls = refl; short = omega arith; at_stage = tt }
 
 -- one more declaration that is distinct from those before
 distinct_push : (before ds : List Decl) (d : Decl) → are_distinct before ds ≡ true → is_repeated (before ++ ds) d ≡ false → are_distinct before (ds ++ d ∷ []) ≡ true
@@ -87,72 +95,71 @@ all_push : {X : Type 0} (test : X → Bool) (xs : List X) (x : X) → list_all t
 all_push test xs x all one = rw (list_all-append test xs (x ∷ []), all, one) refl
 
 -- a call and the end of a body stand in a body
-call_stage : (stage : Stage) (d : Draft) (request : Req) (fits : Bool) → in_place stage (Call request fits) ≡ true → AtStage stage d → AtStage InTask d
-call_stage InTask d request fits place at = at
-call_stage _ d request fits place at = absurd (let none : false ≡ true = place in cc)
+call_stage : (stage : Stage) (last : Bool) (d : Draft) (request : Req) (fits : Bool) → in_place stage last (Call request fits) ≡ true → AtStage stage d → AtStage InTask d
+call_stage InTask last d request fits place at = at
+call_stage _ last d request fits place at = absurd (let none : false ≡ true = place in cc)
 
 -- the end of a body stands in a body
-end_stage : (stage : Stage) (d : Draft) → in_place stage End ≡ true → AtStage stage d → AtStage InTask d
-end_stage InTask d place at = at
-end_stage _ d place at = absurd (let none : false ≡ true = place in cc)
+end_stage : (stage : Stage) (last : Bool) (d : Draft) → in_place stage last End ≡ true → AtStage stage d → AtStage InTask d
+end_stage InTask last d place at = at
+end_stage _ last d place at = absurd (let none : false ≡ true = place in cc)
 
 -- one more line in its ranges
 more_ranges : (d : Draft) (l : ScriptLine) → Kept d → Passes d l → list_all is_in_range (lines_at (moved d l).stage (moved d l)) ≡ true
 more_ranges d l k p = rw (added d.stage d l p.place p.range) (all_push is_in_range (lines_at d.stage d) l k.ranges p.range)
 
+-- one more declaration that can be written and is new
+good_push : (ds : List Decl) (d : Decl) → AreGood ds → is_written_declaration d ≡ true → is_repeated ds d ≡ false → AreGood (ds ++ d ∷ [])
+good_push ds d g written fresh = record { written = all_push is_written_declaration ds d g.written written; distinct = distinct_push [] ds d g.distinct fresh }
+
 -- a line that passes and can be written keeps it all
 pub kept : (d : Draft) (l : ScriptLine) → Kept d → Passes d l → is_written l ≡ true → Kept (moved d l)
-kept d Itron k p w = record { ranges = more_ranges d Itron k p; written = k.written; distinct = k.distinct; activated = k.activated; calls = k.calls; short = k.short; bare = k.bare; at_stage = tt }
-kept d (Link key) k p w = record { ranges = more_ranges d (Link key) k p; written = k.written; distinct = k.distinct; activated = k.activated; calls = k.calls; short = k.short; bare = k.bare; at_stage = tt }
-kept d (Ticks ticks) k p w = record { ranges = more_ranges d (Ticks ticks) k p; written = k.written; distinct = k.distinct; activated = k.activated; calls = k.calls; short = k.short; bare = k.bare; at_stage = tt }
-kept d (FirstNode n) k p w = record { ranges = more_ranges d (FirstNode n) k p; written = refl; distinct = refl; activated = k.activated; calls = k.calls; short = k.short; bare = k.bare; at_stage = tt }
+kept d Itron k p w = record { ranges = more_ranges d Itron k p; before = k.before; good = k.good; activated = k.activated; calls = k.calls; short = k.short; at_stage = tt }
+kept d (Link key) k p w = record { ranges = more_ranges d (Link key) k p; before = k.before; good = k.good; activated = k.activated; calls = k.calls; short = k.short; at_stage = tt }
+kept d (Ticks ticks) k p w = record { ranges = more_ranges d (Ticks ticks) k p; before = k.before; good = k.good; activated = k.activated; calls = k.calls; short = k.short; at_stage = tt }
+kept d (FirstNode n) k p w = record { ranges = more_ranges d (FirstNode n) k p; before = tt; good = none_good; activated = k.activated; calls = k.calls; short = k.short; at_stage = tt }
 kept d (SecondNode n) k p w = record {
   ranges = more_ranges d (SecondNode n) k p;
-  written = k.written;
-  distinct = k.distinct;
+  before = (k.good, eqb-false (unwrap_or n.addr 0) d.node.addr (not-true (eqb (unwrap_or n.addr 0) d.node.addr) p.room));
+  good = none_good;
   activated = k.activated;
   calls = k.calls;
   short = k.short;
-  bare = refl;
-  at_stage = eqb-false (unwrap_or n.addr 0) d.first.addr (not-true (eqb (unwrap_or n.addr 0) d.first.addr) p.room);
+  at_stage = tt;
 }
 kept d (Sem id init max) k p w = record {
   ranges = more_ranges d (Sem id init max) k p;
-  written = all_push is_written_declaration d.first.decls _ k.written refl;
-  distinct = distinct_push [] d.first.decls _ k.distinct p.fresh;
+  before = k.before;
+  good = good_push d.node.decls _ k.good refl p.fresh;
   activated = k.activated;
   calls = k.calls;
   short = k.short;
-  bare = k.bare;
   at_stage = tt;
 }
 kept d (Task id pri) k p w = record {
   ranges = more_ranges d (Task id pri) k p;
-  written = k.written;
-  distinct = k.distinct;
+  before = k.before;
+  good = k.good;
   activated = refl;
   calls = refl;
   short = omega arith;
-  bare = k.bare;
   at_stage = p.fresh;
 }
 kept d (Call request fits) k p w = record {
   ranges = more_ranges d (Call request fits) k p;
-  written = k.written;
-  distinct = k.distinct;
+  before = k.before;
+  good = k.good;
   activated = k.activated;
   calls = all_push is_written_line d.body _ k.calls w;
   short = omega (arith, ltb-true (length d.body) 1000 p.room, length_push d.body (body_lines.Call request));
-  bare = k.bare;
-  at_stage = call_stage d.stage d request fits p.place k.at_stage;
+  at_stage = call_stage d.stage (is_last d) d request fits p.place k.at_stage;
 }
 kept d End k p w = record {
   ranges = more_ranges d End k p;
-  written = all_push is_written_declaration d.first.decls _ k.written (rw (k.activated, le-leb (length d.body) 1000 k.short, k.calls) refl);
-  distinct = distinct_push [] d.first.decls _ k.distinct (end_stage d.stage d p.place k.at_stage);
+  before = k.before;
+  good = good_push d.node.decls _ k.good (rw (k.activated, le-leb (length d.body) 1000 k.short, k.calls) refl) (end_stage d.stage (is_last d) d p.place k.at_stage);
   activated = k.activated;
   calls = refl;
   short = omega arith;
-  bare = k.bare;
   at_stage = tt;
 }

@@ -1,23 +1,25 @@
 -- A text that is read as a script is the script's printed form, up to skipped lines, and the script is good.
-use Rattle.std.proofs.Common.{◌≡◌, ◌⊎◌, ℕ, ◌+◌, Bool, true, false, not, cond, List, [], ◌∷◌, ◌++◌, Option, Some, None, Result, Ok, Err, refl, sym, ap, subst, ◌∙◌, append_assoc, inl, inr}
-use Rattle.std.specs.List.{flat_map, filter}
+use Rattle.std.proofs.Common.{◌≡◌, ◌≢◌, ◌⊎◌, ℕ, ◌+◌, Bool, true, false, not, cond, List, [], ◌∷◌, ◌++◌, Option, Some, None, is_some, unwrap_or, Result, Ok, Err, refl, sym, ap, subst, ◌∙◌, append_assoc, inl, inr}
+use Rattle.std.specs.List.{flat_map, filter, list_all}
 use Rattle.std.proofs.lemmas.Bool.{cases_Bool}
 use Rattle.std.proofs.lemmas.List.{append-nil}
 use Rattle.spec_script.specs.declared.script.Script.{Script}
+use Rattle.spec_script.specs.declared.script.NodeDecl.{NodeDecl}
 use Rattle.spec_script.specs.declared.script_line.ScriptLine.{ScriptLine}
-use Rattle.spec_script.specs.Lines.{ended, spelled, line_text, lines_of, script_text}
-use Rattle.spec_script.specs.Ranges.{IsGood}
+use Rattle.spec_script.specs.declared.script_line.ScriptLine.TheVariants.{SecondNode}
+use Rattle.spec_script.specs.Lines.{ended, spelled, line_text, no_node, node_line, declaration_lines, lines_of, script_text}
+use Rattle.spec_script.specs.Ranges.{is_in_range, AreGood, IsGood}
 use Rattle.spec_script.specs.Text.{split_lines, is_skipped, IsReadAs}
 use Rattle.s_script.specs.declared.read_bad.Why.{Why}
 use Rattle.s_script.specs.declared.draft.Stage.{Stage}
-use Rattle.s_script.specs.declared.draft.Stage.TheVariants.{Whole}
+use Rattle.s_script.specs.declared.draft.Stage.TheVariants.{Declares}
 use Rattle.s_script.specs.declared.draft.Draft.{Draft}
 use Rattle.s_script.specs.LineKinds.{line_of}
-use Rattle.s_script.specs.Drafts.{start, script_of, lines_at, cause, moved}
+use Rattle.s_script.specs.Drafts.{start, script_of, head_of, lines_before, lines_at, is_last, cause, moved}
 use Rattle.s_script.specs.Reading.{with_cause, with_line, take_line, is_whole, at_end_of_text, at_line, go_on, read_from, finished, read_text}
 use Rattle.s_script.proofs.Added.{added}
-use Rattle.s_script.proofs.Kept.{Passes, passes, Kept, start_kept, kept, AtStage}
-use Rattle.s_script.proofs.LineTakes.{line_takes}
+use Rattle.s_script.proofs.Kept.{Passes, passes, IsAfter, Kept, start_kept, kept}
+use Rattle.s_script.proofs.EachTakes.{line_takes}
 
 -- ---- one line
 
@@ -78,10 +80,9 @@ on_line number (Err why) rest e h = absurd cc
 
 -- ---- the end
 
--- whole is the last stage
-whole_is : (stage : Stage) → is_whole stage ≡ true → stage ≡ Whole
-whole_is Whole e = refl
-whole_is _ e = absurd (let none : false ≡ true = e in cc)
+-- the draft is whole
+abbrev pub IsWhole : Draft → Type 0
+IsWhole d = is_whole d.stage (is_last d) ≡ true
 
 -- a draft that was finished is whole
 whole_end : (b : Bool) (d e : Draft) (wrong : ℕ × Why) → cond b (went d) (Err wrong) ≡ went e → (b ≡ true) × (d ≡ e)
@@ -89,8 +90,8 @@ whole_end true d e wrong h = (refl, went_is d e h)
 whole_end false d e wrong h = absurd cc
 
 -- at the end of the text nothing is left, and the draft is whole
-end_is : (number : ℕ) (d : Draft) (rest : List ℕ) (e : Draft) → at_end_of_text number d rest ≡ went e → (rest ≡ []) × (d.stage ≡ Whole) × (d ≡ e)
-end_is number d [] e h = let w = whole_end (is_whole d.stage) d e _ h in (refl, whole_is d.stage w.0, w.1)
+end_is : (number : ℕ) (d : Draft) (rest : List ℕ) (e : Draft) → at_end_of_text number d rest ≡ went e → (rest ≡ []) × IsWhole d × (d ≡ e)
+end_is number d [] e h = let w = whole_end (is_whole d.stage (is_last d)) d e _ h in (refl, w.0, w.1)
 end_is number d (b ∷ bytes) e h = absurd cc
 
 -- ---- all lines
@@ -105,11 +106,11 @@ pub record Led (d : Draft) (lines : List (List ℕ)) (rest : List ℕ) (e : Draf
   pub text : flat_map ended (filter is_kept lines) ≡ flat_map spelled read
   pub grown : lines_at e.stage e ≡ lines_at d.stage d ++ read
   pub keeps : Kept e
-  pub whole : e.stage ≡ Whole
+  pub whole : IsWhole e
   pub no_rest : rest ≡ []
 
 -- no more lines
-at_the_end : (d : Draft) (rest : List ℕ) (e : Draft) → Kept d → (rest ≡ []) × (d.stage ≡ Whole) × (d ≡ e) → Led d [] rest e
+at_the_end : (d : Draft) (rest : List ℕ) (e : Draft) → Kept d → (rest ≡ []) × IsWhole d × (d ≡ e) → Led d [] rest e
 at_the_end d rest e k h =
     subst (λ (x : Draft). Led d [] rest x) h.2 (record { read = []; text = refl; grown = sym (append-nil (lines_at d.stage d)); keeps = k; whole = h.1; no_rest = h.0 })
 
@@ -146,21 +147,63 @@ led number d rest (line ∷ lines) e h k =
 
 -- ---- the whole text
 
--- what the last stage keeps
-whole_kept : (stage : Stage) (d : Draft) → stage ≡ Whole → AtStage stage d → AtStage Whole d
-whole_kept stage d whole at = subst (λ (x : Stage). AtStage x d) whole at
+-- a whole draft is between declarations of node 1, which has begun after node 0
+record Last (d : Draft) : Type 0 where
+  pub stage : d.stage ≡ Declares
+  pub node : NodeDecl
+  pub first : d.first ≡ Some node
+
+-- where node 0 is there
+first_there : (o : Option NodeDecl) → is_some o ≡ true → (n : NodeDecl) × (o ≡ Some n)
+first_there None e = absurd (let none : false ≡ true = e in cc)
+first_there (Some n) e = (n, refl)
+
+-- only between declarations is a draft whole
+declares_is : (stage : Stage) (last : Bool) → is_whole stage last ≡ true → (stage ≡ Declares) × (last ≡ true)
+declares_is Declares last e = (refl, e)
+declares_is _ last e = absurd (let none : false ≡ true = e in cc)
+
+-- the parts of a whole draft
+last_of : (d : Draft) → IsWhole d → Last d
+last_of d e =
+    let parts = declares_is d.stage (is_last d) e in
+    let n = first_there d.first parts.1 in
+    record { stage = parts.0; node = n.0; first = n.1 }
+
+-- the lines of a whole draft, by its parts
+last_lines : (d : Draft) (n : NodeDecl) → d.first ≡ Some n → lines_at Declares d ≡ lines_of (script_of d)
+last_lines d n first =
+    let ds = flat_map declaration_lines n.decls in
+    let es = flat_map declaration_lines d.node.decls in
+    let head = head_of d.key d.ticks (node_line n) in
+    let second = SecondNode (node_line d.node) ∷ [] in
+    ap (λ (o : Option NodeDecl). lines_before d.key d.ticks o (node_line d.node) ++ es) first
+    ∙ append_assoc head (ds ++ second) es
+    ∙ ap (λ (ls : List ScriptLine). head ++ ls) (append_assoc ds second es)
+    ∙ ap (λ (o : Option NodeDecl). head_of d.key d.ticks (node_line (unwrap_or o no_node)) ++ (flat_map declaration_lines (unwrap_or o no_node).decls ++ (SecondNode (node_line d.node) ∷ es))) (sym first)
+
+-- the lines of a whole draft are those of its script
+pub whole_lines : (d : Draft) → IsWhole d → lines_at d.stage d ≡ lines_of (script_of d)
+whole_lines d whole = let l = last_of d whole in ap (λ (stage : Stage). lines_at stage d) l.stage ∙ last_lines d l.node l.first
+
+-- node 0 of a whole draft is good, and node 1 has another address
+whole_after : (o : Option NodeDecl) (n : NodeDecl) (addr : ℕ) → o ≡ Some n → IsAfter o addr → AreGood (unwrap_or o no_node).decls × (addr ≢ (unwrap_or o no_node).addr)
+whole_after None n addr e after = absurd cc
+whole_after (Some m) n addr e after = after
 
 -- the script of a whole draft is good
-pub good : (e : Draft) → Kept e → e.stage ≡ Whole → IsGood (script_of e)
-good e k whole = record {
-  ranges = rw whole at k.ranges;
-  written = k.written;
-  distinct = k.distinct;
-  addresses = whole_kept e.stage e whole k.at_stage;
-  bare_second = k.bare;
-  sure_link = refl;
-  two_nodes = refl;
-}
+pub good : (e : Draft) → Kept e → IsWhole e → IsGood (script_of e)
+good e k whole =
+    let l = last_of e whole in
+    let after = whole_after e.first l.node e.node.addr l.first k.before in
+    record {
+      ranges = subst (λ (ls : List ScriptLine). list_all is_in_range ls ≡ true) (whole_lines e whole) k.ranges;
+      first = after.0;
+      second = k.good;
+      addresses = after.1;
+      sure_link = refl;
+      two_nodes = refl;
+    }
 
 -- a script that was read
 abbrev pub made : Script → Result Script (ℕ × Why)
@@ -183,7 +226,7 @@ whole_text lines rest read s text no_rest same = rw (text, no_rest, append-nil (
 -- lines that led to a draft are read as its script
 of_led : (text : List ℕ) (e : Draft) → Led start (split_lines text).0 (split_lines text).1 e → IsReadAs text (script_of e)
 of_led text e m =
-    let lines : m.read ≡ lines_of (script_of e) = sym m.grown ∙ ap (λ (stage : Stage). lines_at stage e) m.whole in
+    let lines : m.read ≡ lines_of (script_of e) = sym m.grown ∙ whole_lines e m.whole in
     record { form = whole_text (split_lines text).0 (split_lines text).1 m.read (script_of e) m.text m.no_rest lines; good = good e m.keeps m.whole }
 
 -- what is read as a script is its printed form, up to skipped lines, and the script is good

@@ -1,28 +1,19 @@
 -- A line in its ranges is read again from its text.
-use Rattle.std.proofs.Common.{◌≡◌, ℕ, ◌+◌, ◌*◌, ◌/◌, ◌%◌, ◌<◌, ◌≤◌, true, false, eqb, ltb, leb, List, [], ◌∷◌, ◌++◌, Option, Some, None, codes, refl, sym, ap, ◌∙◌, append_assoc, arith}
-use Rattle.std.specs.List.{list_all}
+use Rattle.std.proofs.Common.{◌≡◌, ℕ, ◌+◌, ◌*◌, ◌/◌, ◌%◌, ◌<◌, ◌≤◌, true, false, ltb, leb, List, [], ◌++◌, Option, Some, None, codes, refl, sym, ap, ◌∙◌, append_assoc, arith}
 use Rattle.std.specs.Char.{is_ascii_digit}
 use Rattle.std.specs.Fmt.{decimal}
-use Rattle.std.proofs.lemmas.Bool.{and_parts, ne_eqb, ltb-true, leb-true, lt-ltb, le-leb}
+use Rattle.std.proofs.lemmas.Bool.{and_parts, leb-true, lt-ltb}
 use Rattle.std.proofs.lemmas.List.{append-nil}
-use Rattle.it_types.specs.declared.id.ObjId.{ObjId}
-use Rattle.it_types.specs.declared.request.Req.{Req}
-use Rattle.it_types.specs.declared.request.Req.TheVariants as requests
-use Rattle.it_types.specs.declared.timeout.Tmo.{Tmo}
-use Rattle.it_types.specs.declared.timeout.Tmo.TheVariants as timeouts
 use Rattle.it_types.specs.Address.{address_text}
-use Rattle.it_types.specs.Spelling.{timeout_text}
-use Rattle.spec_script.specs.declared.script_line.ScriptLine.{ScriptLine}
-use Rattle.spec_script.specs.declared.script_line.ScriptLine.TheVariants.{Itron, Link, Ticks, FirstNode, SecondNode, Sem, Task, Call, End}
+use Rattle.spec_script.specs.declared.script_line.ScriptLine.TheVariants.{Itron, Link, Ticks, FirstNode, SecondNode, Sem, Task, End}
 use Rattle.spec_script.specs.declared.script_line.NodeLine.{NodeLine}
 use Rattle.spec_script.specs.Lines.{line_text, node_text}
-use Rattle.spec_script.specs.Ranges.{within, is_at_most, is_node_in_range, is_in_range, greatest_time, is_written_timeout, is_written_call}
+use Rattle.spec_script.specs.Ranges.{within, is_at_most, is_node_in_range, is_in_range}
 use Rattle.s_script.specs.Cursor.{and_then, after}
 use Rattle.s_script.specs.Numbers.{number_at, address_of, address_at}
-use Rattle.s_script.specs.LineKinds.{timeout_word, timeout_number, timeout_at, sig_sem_line, twai_sem_line, dly_tsk_line, itron_line, link_line, ticks_line, node_at, first_node_line, second_node_line, either_node_line, sem_line, task_line, line_of}
+use Rattle.s_script.specs.LineKinds.{itron_line, link_line, ticks_line, node_at, first_node_line, second_node_line, either_node_line, sem_line, task_line, line_of}
 use Rattle.s_script.proofs.Fronts.{stops}
-use Rattle.s_script.proofs.Numerals.{decimal_digits, number_again}
-use Rattle.s_script.proofs.LineTakes.{is_written}
+use Rattle.s_script.proofs.Numerals.{number_again}
 
 -- ---- numbers in their ranges
 
@@ -37,7 +28,7 @@ at_most None n e go = absurd (let none : false ≡ true = e in cc)
 at_most (Some m) n e go = go m refl (leb-true m n e)
 
 -- a number at the end is read again
-number_last : (n : ℕ) → n < 18446744073709551616 → number_at (decimal n) ≡ Some (Some n, [])
+pub number_last : (n : ℕ) → n < 18446744073709551616 → number_at (decimal n) ≡ Some (Some n, [])
 number_last n fits = ap number_at (sym (append-nil (decimal n))) ∙ number_again n [] fits refl
 
 -- ---- addresses
@@ -54,7 +45,7 @@ address_back addr high =
     rw (one, two, three, four, whole) refl
 
 -- an address is read again
-address_again : (addr : ℕ) (rest : List ℕ) → addr ≤ 4294967295 → stops is_ascii_digit rest ≡ true → address_at (address_text addr ++ rest) ≡ Some (Some addr, rest)
+pub address_again : (addr : ℕ) (rest : List ℕ) → addr ≤ 4294967295 → stops is_ascii_digit rest ≡ true → address_at (address_text addr ++ rest) ≡ Some (Some addr, rest)
 unfolding address_at and_then after
 address_again addr rest high stop =
     let a = addr / 16777216 in
@@ -73,12 +64,12 @@ address_again addr rest high stop =
 -- ---- one lemma for each kind of line
 
 -- link KEY 0 0 0
-link_again : (key : Option ℕ) → is_in_range (Link key) ≡ true → line_of (line_text (Link key)) ≡ Some (Link key)
+pub link_again : (key : Option ℕ) → is_in_range (Link key) ≡ true → line_of (line_text (Link key)) ≡ Some (Link key)
 unfolding line_of link_line and_then after
 link_again key range = in_bounds 0 key 18446744073709551615 range λ k e high. rw (e, number_again k (codes " 0 0 0") (omega arith) refl) refl
 
 -- ticks T
-ticks_again : (ticks : Option ℕ) → is_in_range (Ticks ticks) ≡ true → line_of (line_text (Ticks ticks)) ≡ Some (Ticks ticks)
+pub ticks_again : (ticks : Option ℕ) → is_in_range (Ticks ticks) ≡ true → line_of (line_text (Ticks ticks)) ≡ Some (Ticks ticks)
 unfolding line_of ticks_line and_then after
 ticks_again ticks range = in_bounds 0 ticks 400000 range λ t e high. rw (e, number_last t (omega arith)) refl
 
@@ -109,12 +100,12 @@ node_again : (n : NodeLine) → is_node_in_range n ≡ true → node_at (node_te
 node_again n range = node_of_options n.addr n.isn0 n.top0 range
 
 -- node 0 ADDR ISN TOP
-first_node_again : (n : NodeLine) → is_node_in_range n ≡ true → line_of (line_text (FirstNode n)) ≡ Some (FirstNode n)
+pub first_node_again : (n : NodeLine) → is_node_in_range n ≡ true → line_of (line_text (FirstNode n)) ≡ Some (FirstNode n)
 unfolding line_of either_node_line first_node_line and_then after
 first_node_again n range = rw (node_again n range) refl
 
 -- node 1 ADDR ISN TOP
-second_node_again : (n : NodeLine) → is_node_in_range n ≡ true → line_of (line_text (SecondNode n)) ≡ Some (SecondNode n)
+pub second_node_again : (n : NodeLine) → is_node_in_range n ≡ true → line_of (line_text (SecondNode n)) ≡ Some (SecondNode n)
 unfolding line_of either_node_line first_node_line second_node_line and_then after
 second_node_again n range = rw (node_again n range) refl
 
@@ -129,7 +120,7 @@ sem_of_numbers id init max i n m =
     ) refl
 
 -- the same of numbers that are there
-sem_again : (id init max : Option ℕ) → is_in_range (Sem id init max) ≡ true → line_of (line_text (Sem id init max)) ≡ Some (Sem id init max)
+pub sem_again : (id init max : Option ℕ) → is_in_range (Sem id init max) ≡ true → line_of (line_text (Sem id init max)) ≡ Some (Sem id init max)
 sem_again id init max range =
     let bounds = and_parts (within 1 id 16) _ range in
     let counts = and_parts (is_at_most init max) (within 1 max 65535) bounds.1 in
@@ -148,89 +139,19 @@ task_of_numbers id pri i p =
     ) refl
 
 -- the same of numbers that are there
-task_again : (id pri : Option ℕ) → is_in_range (Task id pri) ≡ true → line_of (line_text (Task id pri)) ≡ Some (Task id pri)
+pub task_again : (id pri : Option ℕ) → is_in_range (Task id pri) ≡ true → line_of (line_text (Task id pri)) ≡ Some (Task id pri)
 task_again id pri range =
     let bounds = and_parts (within 1 id 16) (within 1 pri 16) range in
     in_bounds 1 id 16 bounds.0 λ i e x.
     in_bounds 1 pri 16 bounds.1 λ p f y.
     rw (e, f) (task_of_numbers i p x y)
 
--- ---- calls
-
--- sig_sem ID
-sig_sem_again : (sem : ObjId) → ltb sem.0 4294967296 ≡ true → line_of (line_text (Call (requests.SigSem sem) true)) ≡ Some (Call (requests.SigSem sem) true)
-unfolding line_of sig_sem_line and_then after
-sig_sem_again sem small = rw (number_last sem.0 (omega (arith, ltb-true sem.0 4294967296 small)), small) refl
-
--- no word that begins with a letter is read from digits
-no_word : (letter : ℕ) (word digits : List ℕ) → 57 < letter → list_all is_ascii_digit digits ≡ true → after (letter ∷ word) digits ≡ None
-unfolding after
-no_word letter word [] high all = refl
-no_word letter word (d ∷ digits) high all =
-    let digit = and_parts (is_ascii_digit d) (list_all is_ascii_digit digits) all in
-    let other : eqb d letter ≡ false = ne_eqb d letter (λ same. omega (arith, leb-true d 57 (and_parts (leb 48 d) (leb d 57) digit.0).1)) in
-    rw other refl
-
--- a number of ticks
-timeout_number_again : (ticks : ℕ) → ticks ≤ greatest_time → timeout_at (decimal ticks) ≡ Some (timeouts.Ms ticks, [])
-unfolding timeout_at timeout_word timeout_number and_then
-timeout_number_again ticks high =
-    let digits : list_all is_ascii_digit (decimal ticks) ≡ true = decimal_digits ticks (omega arith) in
-    let no_pol : after (codes "pol") (decimal ticks) ≡ None = no_word 112 (codes "ol") (decimal ticks) (omega arith) digits in
-    let no_fevr : after (codes "fevr") (decimal ticks) ≡ None = no_word 102 (codes "evr") (decimal ticks) (omega arith) digits in
-    let small : ltb ticks 4294967296 ≡ true = lt-ltb ticks 4294967296 (omega arith) in
-    rw (no_pol, no_fevr, number_last ticks (omega arith), small) refl
-
--- pol, fevr or a number
-timeout_again : (tmo : Tmo) → is_written_timeout tmo ≡ true → timeout_at (timeout_text tmo) ≡ Some (tmo, [])
-unfolding timeout_at timeout_word and_then after
-timeout_again timeouts.Pol e = refl
-timeout_again timeouts.Nblk e = absurd (let none : false ≡ true = e in cc)
-timeout_again timeouts.Fevr e = refl
-timeout_again (timeouts.Ms ticks) e = timeout_number_again ticks (leb-true ticks greatest_time (and_parts (leb 1 ticks) (leb ticks greatest_time) e).1)
-
--- twai_sem ID TMO
-twai_sem_again : (sem : ObjId) (tmo : Tmo) → is_written_call (requests.TwaiSem sem tmo) ≡ true → line_of (line_text (Call (requests.TwaiSem sem tmo) true)) ≡ Some (Call (requests.TwaiSem sem tmo) true)
-unfolding line_of twai_sem_line and_then after
-twai_sem_again sem tmo written =
-    let parts = and_parts (ltb sem.0 4294967296) (is_written_timeout tmo) written in
-    rw (number_again sem.0 (codes " " ++ timeout_text tmo) (omega (arith, ltb-true sem.0 4294967296 parts.0)) refl, parts.0, timeout_again tmo parts.1, parts.1) refl
-
--- dly_tsk MS
-dly_tsk_again : (ticks : ℕ) → leb ticks greatest_time ≡ true → line_of (line_text (Call (requests.DlyTsk ticks) true)) ≡ Some (Call (requests.DlyTsk ticks) true)
-unfolding line_of dly_tsk_line and_then after
-dly_tsk_again ticks range =
-    let high = leb-true ticks greatest_time range in
-    let small : ltb ticks 4294967296 ≡ true = lt-ltb ticks 4294967296 (omega arith) in
-    let low : leb 0 ticks ≡ true = le-leb 0 ticks (omega arith) in
-    rw (number_last ticks (omega arith), small, low, range) refl
-
--- a call that can be written
-call_again : (request : Req) → is_written_call request ≡ true → line_of (line_text (Call request true)) ≡ Some (Call request true)
-call_again requests.ExtTsk written = absurd (let none : false ≡ true = written in cc)
-call_again (requests.DlyTsk ticks) written = dly_tsk_again ticks written
-call_again (requests.SigSem sem) written = sig_sem_again sem written
-call_again (requests.TwaiSem sem tmo) written = twai_sem_again sem tmo written
-
 -- itron 1
-itron_again : line_of (line_text Itron) ≡ Some Itron
+pub itron_again : line_of (line_text Itron) ≡ Some Itron
 unfolding line_of itron_line and_then after
 itron_again = refl
 
 -- end
-end_again : line_of (line_text End) ≡ Some End
+pub end_again : line_of (line_text End) ≡ Some End
 unfolding line_of
 end_again = refl
-
--- each line in its ranges, whose call can be written, is read again from its text
-pub line_again : (l : ScriptLine) → is_in_range l ≡ true → is_written l ≡ true → line_of (line_text l) ≡ Some l
-line_again Itron range written = itron_again
-line_again (Link key) range written = link_again key range
-line_again (Ticks ticks) range written = ticks_again ticks range
-line_again (FirstNode n) range written = first_node_again n range
-line_again (SecondNode n) range written = second_node_again n range
-line_again (Sem id init max) range written = sem_again id init max range
-line_again (Task id pri) range written = task_again id pri range
-line_again (Call request true) range written = call_again request written
-line_again (Call request false) range written = absurd (let none : false ≡ true = range in cc)
-line_again End range written = end_again

@@ -1,24 +1,14 @@
 -- A line that is read in its ranges is spelled as it is printed.
-use Rattle.std.proofs.Common.{◌≡◌, ℕ, Bool, true, false, ◌&&◌, ltb, leb, List, [], ◌∷◌, ◌++◌, Option, Some, None, is_some, unwrap_or, codes, refl, sym, ap, subst, ◌∙◌, append_assoc, inl, inr, arith}
-use Rattle.std.specs.Prelude.{nat_eq}
-use Rattle.std.specs.List.{AllByRecursion}
-use Rattle.std.specs.Fmt.{decimal}
-use Rattle.std.specs.Cmp.Lexicographic.{pointwise}
-use Rattle.std.proofs.lemmas.Bool.{cases_Bool, and_parts, and_from, leb-true, lt-ltb}
+use Rattle.std.proofs.Common.{◌≡◌, ℕ, Bool, true, false, List, [], ◌++◌, Option, Some, None, is_some, codes, refl, sym, ap, subst, ◌∙◌, append_assoc}
+use Rattle.std.proofs.lemmas.Bool.{and_parts}
 use Rattle.std.proofs.lemmas.List.{append-nil}
-use Rattle.std.proofs.lemmas.Slice.Eq.{bytes_eq-Decides}
-use Rattle.it_types.specs.declared.request.Req.TheVariants as requests
-use Rattle.it_types.specs.declared.timeout.Tmo.{Tmo}
-use Rattle.it_types.specs.declared.timeout.Tmo.TheVariants as timeouts
-use Rattle.it_types.specs.Spelling.{timeout_text}
 use Rattle.spec_script.specs.declared.script_line.ScriptLine.{ScriptLine}
 use Rattle.spec_script.specs.declared.script_line.ScriptLine.TheVariants.{Itron, Link, Ticks, FirstNode, SecondNode, Sem, Task, Call, End}
 use Rattle.spec_script.specs.declared.script_line.NodeLine.{NodeLine}
 use Rattle.spec_script.specs.Lines.{line_text, number_text, node_text}
-use Rattle.spec_script.specs.Ranges.{within, is_at_most, is_node_in_range, is_in_range, greatest_time, is_written_timeout, is_written_call}
-use Rattle.s_script.specs.Cursor.{or_else, at_end, split_while}
-use Rattle.s_script.specs.LineKinds.{timeout_word, ticks_of, timeout_number, timeout_at, object_of, is_object, sig_sem_line, twai_sem_line, dly_tsk_line, itron_line, link_line, ticks_line, node_at, first_node_line, second_node_line, either_node_line, sem_line, task_line, end_line, is_no_space, Kinds, call_kinds, other_kinds, by_word, line_of}
-use Rattle.s_script.proofs.Fronts.{split_joins}
+use Rattle.spec_script.specs.Ranges.{within, is_at_most, is_node_in_range, is_in_range, is_written_call}
+use Rattle.s_script.specs.Cursor.{or_else, at_end}
+use Rattle.s_script.specs.LineKinds.{itron_line, link_line, ticks_line, node_at, first_node_line, second_node_line, either_node_line, sem_line, task_line, end_line}
 use Rattle.s_script.proofs.Words.{read_step, found_is, at_end_is, after_takes}
 use Rattle.s_script.proofs.Numerals.{number_takes, address_takes}
 
@@ -32,7 +22,7 @@ pub record Takes (bytes : List ℕ) (l : ScriptLine) : Type 0 where
   pub fact : is_in_range l ≡ true → (bytes ≡ line_text l) × (is_written l ≡ true)
 
 -- a line that is read up to the end
-at_end_takes : (bytes rest : List ℕ) (made l : ScriptLine) → at_end rest made ≡ Some l → (rest ≡ [] → Takes bytes made) → Takes bytes l
+pub at_end_takes : (bytes rest : List ℕ) (made l : ScriptLine) → at_end rest made ≡ Some l → (rest ≡ [] → Takes bytes made) → Takes bytes l
 at_end_takes bytes rest made l e go = let read = at_end_is rest made l e in subst (λ (m : ScriptLine). Takes bytes m) read.1 (go read.0)
 
 -- ---- what ranges say
@@ -89,7 +79,7 @@ node_takes bytes x e range =
     let bounds = and_parts (within 1 addr.0 4294967295) _ (subst (λ (y : NodeLine × List ℕ). is_node_in_range y.0 ≡ true) (sym made) range) in
     let others = and_parts (within 0 isn0.0 4294967295) (within 0 top0.0 2000000000) bounds.1 in
     let whole : bytes ≡ node_text node ++ top0.1 =
-    rw (address_takes bytes addr p (within_some _ addr.0 _ bounds.0), after_takes (codes " ") addr.1 rest1 q, number_takes rest1 isn0 r (within_some _ isn0.0 _ others.0), after_takes (codes " ") isn0.1 rest2 s, number_takes rest2 top0 t (within_some _ top0.0 _ others.1)) (simp append_assoc) in
+    rw ((address_takes bytes addr p (within_some _ addr.0 _ bounds.0)).0, after_takes (codes " ") addr.1 rest1 q, number_takes rest1 isn0 r (within_some _ isn0.0 _ others.0), after_takes (codes " ") isn0.1 rest2 s, number_takes rest2 top0 t (within_some _ top0.0 _ others.1)) (simp append_assoc) in
     whole ∙ ap (λ (y : NodeLine × List ℕ). node_text y.0 ++ y.1) made
 
 -- node 0 ADDR ISN TOP
@@ -117,7 +107,7 @@ second_node_takes bytes l e =
     })
 
 -- what the first or else the second reads
-either : {A P : Type 0} (first second : Option A) (y : A) → or_else first second ≡ Some y → (first ≡ Some y → P) → (second ≡ Some y → P) → P
+pub either : {A P : Type 0} (first second : Option A) (y : A) → or_else first second ≡ Some y → (first ≡ Some y → P) → (second ≡ Some y → P) → P
 either None second y e one other = other e
 either (Some x) second y e one other = one e
 
@@ -156,135 +146,3 @@ task_takes bytes l e =
 -- end
 pub end_takes : (bytes : List ℕ) (l : ScriptLine) → end_line bytes ≡ Some l → Takes (codes "end" ++ bytes) l
 end_takes bytes l e = at_end_takes (codes "end" ++ bytes) bytes End l e (λ nil. record { fact = λ range. (rw nil refl, refl) })
-
--- ---- calls
-
--- an id that has 32 bits
-pub record IsId (id : Option ℕ) : Type 0 where
-  pub some : is_some id ≡ true
-  pub same : (object_of id).0 ≡ unwrap_or id 0
-  pub small : ltb (object_of id).0 4294967296 ≡ true
-
--- an id that fits is its number
-object_is : (id : Option ℕ) → is_object id ≡ true → IsId id
-object_is None e = absurd (let none : false ≡ true = e in cc)
-object_is (Some n) e =
-    elim (cases_Bool (ltb n 4294967296)) [
-      | inl t ↦ record { some = refl; same = rw t refl; small = rw t t }
-      | inr f ↦ absurd (let none : false ≡ true = rw f at e in cc)
-    ]
-
--- the word of a time-out
-timeout_word_takes : (word bytes : List ℕ) (timeout : Tmo) (x : Tmo × List ℕ) → timeout_word word timeout bytes ≡ Some x → word ≡ timeout_text timeout → bytes ≡ timeout_text x.0 ++ x.1
-unfolding timeout_word
-timeout_word_takes word bytes timeout x e spelled =
-    read_step e λ rest p e1.
-    let made : (timeout, rest) ≡ x = found_is (timeout, rest) x e1 in
-    after_takes word bytes rest p ∙ ap (λ (t : List ℕ). t ++ rest) spelled ∙ ap (λ (y : Tmo × List ℕ). timeout_text y.0 ++ y.1) made
-
--- a number of ticks that stands as itself
-pub record AreTicks (ticks : Option ℕ) : Type 0 where
-  pub some : is_some ticks ≡ true
-  pub same : ticks_of ticks ≡ unwrap_or ticks 0
-
--- ticks of a time-out that can be written are their number
-ticks_are : (ticks : Option ℕ) → is_written_timeout (timeouts.Ms (ticks_of ticks)) ≡ true → AreTicks ticks
-ticks_are None e = absurd (let none : false ≡ true = e in cc)
-ticks_are (Some n) e =
-    elim (cases_Bool (ltb n 4294967296)) [
-      | inl t ↦ record { some = refl; same = rw t refl }
-      | inr f ↦ absurd (let none : false ≡ true = rw f at e in cc)
-    ]
-
--- the number of a time-out
-timeout_number_takes : (bytes : List ℕ) (x : Tmo × List ℕ) → timeout_number bytes ≡ Some x → is_written_timeout x.0 ≡ true → bytes ≡ timeout_text x.0 ++ x.1
-unfolding timeout_number
-timeout_number_takes bytes x e written =
-    read_step e λ ticks p e1.
-    let made : (timeouts.Ms (ticks_of ticks.0), ticks.1) ≡ x = found_is (timeouts.Ms (ticks_of ticks.0), ticks.1) x e1 in
-    let number = ticks_are ticks.0 (subst (λ (y : Tmo × List ℕ). is_written_timeout y.0 ≡ true) (sym made) written) in
-    number_takes bytes ticks p number.some ∙ ap (λ (n : ℕ). decimal n ++ ticks.1) (sym number.same) ∙ ap (λ (y : Tmo × List ℕ). timeout_text y.0 ++ y.1) made
-
--- pol, fevr or a number
-timeout_takes : (bytes : List ℕ) (x : Tmo × List ℕ) → timeout_at bytes ≡ Some x → is_written_timeout x.0 ≡ true → bytes ≡ timeout_text x.0 ++ x.1
-unfolding timeout_at
-timeout_takes bytes x e written =
-    either (timeout_word (codes "pol") timeouts.Pol bytes) (or_else (timeout_word (codes "fevr") timeouts.Fevr bytes) (timeout_number bytes)) x e
-    (λ a. timeout_word_takes (codes "pol") bytes timeouts.Pol x a refl)
-    (λ b. either (timeout_word (codes "fevr") timeouts.Fevr bytes) (timeout_number bytes) x b
-    (λ c. timeout_word_takes (codes "fevr") bytes timeouts.Fevr x c refl)
-    (λ d. timeout_number_takes bytes x d written))
-
--- sig_sem ID
-pub sig_sem_takes : (bytes : List ℕ) (l : ScriptLine) → sig_sem_line bytes ≡ Some l → Takes (codes "sig_sem" ++ bytes) l
-unfolding sig_sem_line
-sig_sem_takes bytes l e =
-    read_step e λ rest p e1. read_step e1 λ sem q e2.
-    at_end_takes (codes "sig_sem" ++ bytes) sem.1 (Call (requests.SigSem (object_of sem.0)) (is_object sem.0)) l e2 (λ nil. record {
-      fact = λ range.
-          let id = object_is sem.0 range in (
-            rw (after_takes (codes " ") bytes rest p, number_takes rest sem q id.some, nil, id.same, append-nil (number_text sem.0)) refl,
-            id.small,
-          );
-    })
-
--- twai_sem ID TMO
-pub twai_sem_takes : (bytes : List ℕ) (l : ScriptLine) → twai_sem_line bytes ≡ Some l → Takes (codes "twai_sem" ++ bytes) l
-unfolding twai_sem_line
-twai_sem_takes bytes l e =
-    read_step e λ rest1 p e1. read_step e1 λ sem q e2. read_step e2 λ rest2 r e3. read_step e3 λ timeout s e4.
-    at_end_takes (codes "twai_sem" ++ bytes) timeout.1 (Call (requests.TwaiSem (object_of sem.0) timeout.0) (is_object sem.0 && is_written_timeout timeout.0)) l e4 (λ nil. record {
-      fact = λ range.
-          let fits = and_parts (is_object sem.0) (is_written_timeout timeout.0) range in
-          let id = object_is sem.0 fits.0 in (
-            rw (after_takes (codes " ") bytes rest1 p, number_takes rest1 sem q id.some, after_takes (codes " ") sem.1 rest2 r, timeout_takes rest2 timeout s fits.1, nil, id.same, append-nil (timeout_text timeout.0)) refl,
-            and_from (ltb (object_of sem.0).0 4294967296) (is_written_timeout timeout.0) id.small fits.1,
-          );
-    })
-
--- ticks of a delay in its range are their number, which can be written
-delay_is : (ticks : Option ℕ) → within 0 ticks greatest_time ≡ true → AreTicks ticks × (is_written_call (requests.DlyTsk (ticks_of ticks)) ≡ true)
-delay_is None e = absurd (let none : false ≡ true = e in cc)
-delay_is (Some n) e =
-    let high : leb n greatest_time ≡ true = (and_parts (leb 0 n) (leb n greatest_time) e).1 in
-    let small : ltb n 4294967296 ≡ true = lt-ltb n 4294967296 (omega (arith, leb-true n greatest_time high)) in
-    (record { some = refl; same = rw small refl }, rw small high)
-
--- dly_tsk MS
-pub dly_tsk_takes : (bytes : List ℕ) (l : ScriptLine) → dly_tsk_line bytes ≡ Some l → Takes (codes "dly_tsk" ++ bytes) l
-unfolding dly_tsk_line
-dly_tsk_takes bytes l e =
-    read_step e λ rest p e1. read_step e1 λ ticks q e2.
-    at_end_takes (codes "dly_tsk" ++ bytes) ticks.1 (Call (requests.DlyTsk (ticks_of ticks.0)) (within 0 ticks.0 greatest_time)) l e2 (λ nil. record {
-      fact = λ range.
-          let delay = delay_is ticks.0 range in (
-            rw (after_takes (codes " ") bytes rest p, number_takes rest ticks q delay.0.some, nil, delay.0.same, append-nil (number_text ticks.0)) refl,
-            delay.1,
-          );
-    })
-
--- ---- by the first word
-
--- a kind of line whose lines are spelled as they are printed
-abbrev KindTakes : List ℕ × (List ℕ → Option ScriptLine) → Type 0
-KindTakes kind = (bytes : List ℕ) (l : ScriptLine) → kind.1 bytes ≡ Some l → Takes (kind.0 ++ bytes) l
-
--- kinds that take what they are spelled from do so by their words
-by_word_takes : (kinds : Kinds) → AllByRecursion KindTakes kinds → (word bytes : List ℕ) (l : ScriptLine) → by_word kinds word bytes ≡ Some l → Takes (word ++ bytes) l
-by_word_takes [] all word bytes l e = absurd cc
-by_word_takes (kind ∷ kinds) all word bytes l e =
-    elim (cases_Bool (pointwise nat_eq word kind.0)) [
-      | inl t ↦ rw ((bytes_eq-Decides word kind.0).0 t) (all.0 bytes l (rw t at e))
-      | inr f ↦ by_word_takes kinds all.1 word bytes l (rw f at e)
-    ]
-
--- each kind does
-all_take : AllByRecursion KindTakes (other_kinds ++ call_kinds)
-all_take = (itron_takes, (link_takes, (ticks_takes, (node_kind_takes, (sem_takes, (task_takes, (end_takes, (sig_sem_takes, (twai_sem_takes, (dly_tsk_takes, tt))))))))))
-
--- each line that is read in its ranges is spelled as it is printed
-pub line_takes : (bytes : List ℕ) (l : ScriptLine) → line_of bytes ≡ Some l → Takes bytes l
-unfolding line_of
-line_takes bytes l e =
-    let parts : List ℕ × List ℕ = split_while is_no_space bytes in
-    rw (split_joins is_no_space bytes) (by_word_takes (other_kinds ++ call_kinds) all_take parts.0 parts.1 l e)

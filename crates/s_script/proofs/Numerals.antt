@@ -181,6 +181,7 @@ pub record AreParts (a b c d : Option ℕ) (addr : ℕ) : Type 0 where
   pub b_some : is_some b ≡ true
   pub c_some : is_some c ≡ true
   pub d_some : is_some d ≡ true
+  pub small : addr < 4294967296
   pub spelled : address_text addr ≡ decimal (unwrap_or a 0) ++ (codes "." ++ (decimal (unwrap_or b 0) ++ (codes "." ++ (decimal (unwrap_or c 0) ++ (codes "." ++ decimal (unwrap_or d 0))))))
 
 -- where an address is made, its parts are there
@@ -198,6 +199,7 @@ parts_are a b c d addr e =
       b_some = rw y.0 refl;
       c_some = rw z.0 refl;
       d_some = rw w.0 refl;
+      small = rw (← made) (omega (arith, x.1, y.1, z.1, w.1));
       spelled = rw (x.0, y.0, z.0, w.0, ← made) (parts_text first second third fourth x.1 y.1 z.1 w.1);
     }
 
@@ -205,8 +207,8 @@ parts_are a b c d addr e =
 same_parts : (o : Option ℕ) (n : ℕ) (rest : List ℕ) (x : Option ℕ × List ℕ) → o ≡ Some n → ◌≡◌ {A = Option ℕ × List ℕ} (o, rest) x → ◌≡◌ {A = Option ℕ × List ℕ} (Some n, rest) x
 same_parts o n rest x e h = rw e at h
 
--- an address that is read is what the bytes begin with
-pub address_takes : (bytes : List ℕ) (x : Option ℕ × List ℕ) → address_at bytes ≡ Some x → is_some x.0 ≡ true → bytes ≡ address_text (unwrap_or x.0 0) ++ x.1
+-- an address that is read is what the bytes begin with, and has 32 bits
+pub address_takes : (bytes : List ℕ) (x : Option ℕ × List ℕ) → address_at bytes ≡ Some x → is_some x.0 ≡ true → (bytes ≡ address_text (unwrap_or x.0 0) ++ x.1) × (unwrap_or x.0 0 < 4294967296)
 unfolding address_at
 address_takes bytes x e some =
     read_step e λ a p e1. read_step e1 λ dot1 q e2. read_step e2 λ b r e3. read_step e3 λ dot2 s e4. read_step e4 λ c t e5. read_step e5 λ dot3 u e6. read_step e6 λ d v e7.
@@ -217,6 +219,6 @@ address_takes bytes x e some =
           let whole : bytes ≡ address_text w.0 ++ d.1 =
           rw (number_takes bytes a p parts.a_some, after_takes (codes ".") a.1 dot1 q, number_takes dot1 b r parts.b_some, after_takes (codes ".") b.1 dot2 s, number_takes dot2 c t parts.c_some, after_takes (codes ".") c.1 dot3 u, number_takes dot3 d v parts.d_some, parts.spelled) (simp append_assoc) in
           let same : (Some w.0, d.1) ≡ x = same_parts (address_of a.0 b.0 c.0 d.0) w.0 d.1 x w.1 made in
-          subst (λ (y : Option ℕ × List ℕ). bytes ≡ address_text (unwrap_or y.0 0) ++ y.1) same whole
+          subst (λ (y : Option ℕ × List ℕ). (bytes ≡ address_text (unwrap_or y.0 0) ++ y.1) × (unwrap_or y.0 0 < 4294967296)) same (whole, parts.small)
       | inr n ↦ absurd (let none : false ≡ true = ap (λ (o : Option ℕ). is_some o) (sym n) ∙ ap (λ (y : Option ℕ × List ℕ). is_some y.0) made ∙ some in cc)
     ]

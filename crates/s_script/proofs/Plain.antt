@@ -1,23 +1,25 @@
 -- The lines of a text, where none has an LF in it.
-use Rattle.std.proofs.Common.{◌≡◌, ℕ, ◌/◌, ◌%◌, ◌<◌, ◌≤◌, Bool, true, false, eqb, ltb, leb, List, [], ◌∷◌, ◌++◌, Option, codes, refl, ap, ◌∙◌, append_assoc, inl, inr, arith}
+use Rattle.std.proofs.Common.{◌≡◌, ℕ, ◌/◌, ◌%◌, ◌<◌, ◌≤◌, Bool, true, false, ◌&&◌, eqb, ltb, leb, List, [], ◌∷◌, ◌++◌, Option, codes, refl, ap, ◌∙◌, append_assoc, inl, inr, arith}
 use Rattle.std.specs.List.{list_all, flat_map, filter}
 use Rattle.std.specs.Char.{is_ascii_digit}
 use Rattle.std.specs.Fmt.{decimal}
 use Rattle.std.proofs.lemmas.Bool.{cases_Bool, and_parts, not-true, ne_eqb, leb-true, ltb-true}
 use Rattle.std.proofs.lemmas.List.Folds.{list_all-append}
+use Rattle.it_types.specs.declared.id.EndPt.{EndPt}
 use Rattle.it_types.specs.declared.request.Req.{Req}
 use Rattle.it_types.specs.declared.request.Req.TheVariants as requests
 use Rattle.it_types.specs.declared.timeout.Tmo.{Tmo}
 use Rattle.it_types.specs.declared.timeout.Tmo.TheVariants as timeouts
-use Rattle.it_types.specs.Address.{address_text}
-use Rattle.it_types.specs.Spelling.{timeout_text}
+use Rattle.it_types.specs.Address.{address_text, end_point_text}
+use Rattle.it_types.specs.Spelling.{timeout_text, data_text, sending_text}
 use Rattle.spec_script.specs.declared.script_line.ScriptLine.{ScriptLine}
 use Rattle.spec_script.specs.declared.script_line.ScriptLine.TheVariants.{Itron, Link, Ticks, FirstNode, SecondNode, Sem, Task, Call, End}
 use Rattle.spec_script.specs.Lines.{line_text, node_text, ended}
-use Rattle.spec_script.specs.Ranges.{within, is_at_most, is_node_in_range, is_in_range, greatest_time, is_written_timeout, is_written_call}
+use Rattle.spec_script.specs.Ranges.{within, is_at_most, is_node_in_range, is_in_range, greatest_time, is_written_timeout, is_network_timeout, is_end_point, is_written_data, is_written_call}
 use Rattle.spec_script.specs.Text.{onto_first, split_lines}
 use Rattle.s_script.proofs.Fronts.{is_no_lf}
 use Rattle.s_script.proofs.Numerals.{decimal_digits}
+use Rattle.s_script.proofs.HexWords.{hex_passes}
 use Rattle.s_script.proofs.LineTakes.{is_written}
 use Rattle.s_script.proofs.LineAgain.{in_bounds, at_most}
 
@@ -152,14 +154,49 @@ timeout_plain timeouts.Nblk e = refl
 timeout_plain timeouts.Fevr e = refl
 timeout_plain (timeouts.Ms ticks) e = ticks_plain ticks (and_parts (leb 1 ticks) (leb ticks greatest_time) e).1
 
+-- nblk, pol, fevr or a number
+network_timeout_plain : (tmo : Tmo) → is_network_timeout tmo ≡ true → is_plain (timeout_text tmo) ≡ true
+network_timeout_plain timeouts.Pol e = refl
+network_timeout_plain timeouts.Nblk e = refl
+network_timeout_plain timeouts.Fevr e = refl
+network_timeout_plain (timeouts.Ms ticks) e = timeout_plain (timeouts.Ms ticks) e
+
+-- plain bytes after plain ones
+both_plain : (front rest : List ℕ) → is_plain front ≡ true → is_plain rest ≡ true → is_plain (front ++ rest) ≡ true
+both_plain front rest one other = rw (list_all-append is_no_lf front rest, one, other) refl
+
+-- where data is sent, the data and the time-out
+sending_plain : (dest : EndPt) (load : List ℕ) (tmo : Tmo) → is_end_point dest ≡ true → is_network_timeout tmo ≡ true → is_plain (sending_text dest load tmo) ≡ true
+sending_plain dest load tmo fits written =
+    let c = and_parts (ltb dest.addr 4294967296) (ltb dest.port 65536) fits in
+    let to : is_plain (end_point_text dest) ≡ true =
+    address_plain dest.addr (codes ":" ++ decimal dest.port) (omega (arith, ltb-true dest.addr 4294967296 c.0)) (number_plain dest.port (omega (arith, ltb-true dest.port 65536 c.1))) in
+    both_plain (end_point_text dest) (codes " " ++ (data_text load ++ (codes " " ++ timeout_text tmo))) to
+    (both_plain (data_text load) (codes " " ++ timeout_text tmo) (hex_passes is_no_lf refl refl load) (network_timeout_plain tmo written))
+
 -- a call that can be written
 call_plain : (request : Req) → is_written_call request ≡ true → is_plain (line_text (Call request true)) ≡ true
-call_plain requests.ExtTsk written = refl
 call_plain (requests.DlyTsk ticks) written = ticks_plain ticks written
 call_plain (requests.SigSem sem) written = number_plain sem.0 (omega (arith, ltb-true sem.0 4294967296 written))
 call_plain (requests.TwaiSem sem tmo) written =
     let parts = and_parts (ltb sem.0 4294967296) (is_written_timeout tmo) written in
     then_plain sem.0 (codes " " ++ timeout_text tmo) (omega (arith, ltb-true sem.0 4294967296 parts.0)) (timeout_plain tmo parts.1)
+call_plain (requests.UdpCreCep cep port cbr) written =
+    let a = and_parts (ltb cep.0 4294967296) (ltb port 65536 && ltb cbr.0 4294967296) written in
+    let b = and_parts (ltb port 65536) (ltb cbr.0 4294967296) a.1 in
+    then_plain cep.0 (codes " " ++ (decimal port ++ (codes " " ++ decimal cbr.0))) (omega (arith, ltb-true cep.0 4294967296 a.0))
+    (then_plain port (codes " " ++ decimal cbr.0) (omega (arith, ltb-true port 65536 b.0)) (number_plain cbr.0 (omega (arith, ltb-true cbr.0 4294967296 b.1))))
+call_plain (requests.UdpSndDat cep dest load tmo) written =
+    let a = and_parts (ltb cep.0 4294967296 && is_end_point dest) (is_written_data load && is_network_timeout tmo) written in
+    let b = and_parts (ltb cep.0 4294967296) (is_end_point dest) a.0 in
+    let d = and_parts (is_written_data load) (is_network_timeout tmo) a.1 in
+    then_plain cep.0 (codes " " ++ sending_text dest load tmo) (omega (arith, ltb-true cep.0 4294967296 b.0)) (sending_plain dest load tmo b.1 d.1)
+call_plain (requests.UdpRcvDat cep len tmo) written =
+    let a = and_parts (ltb cep.0 4294967296) (ltb len 4294967296 && is_network_timeout tmo) written in
+    let b = and_parts (ltb len 4294967296) (is_network_timeout tmo) a.1 in
+    then_plain cep.0 (codes " " ++ (decimal len ++ (codes " " ++ timeout_text tmo))) (omega (arith, ltb-true cep.0 4294967296 a.0))
+    (then_plain len (codes " " ++ timeout_text tmo) (omega (arith, ltb-true len 4294967296 b.0)) (network_timeout_plain tmo b.1))
+call_plain requests.ExtTsk written = refl
 
 -- each line in its ranges, whose call can be written, is plain
 pub line_plain : (l : ScriptLine) → is_in_range l ≡ true → is_written l ≡ true → is_plain (line_text l) ≡ true

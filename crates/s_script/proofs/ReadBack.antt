@@ -14,7 +14,7 @@ use Rattle.s_script.specs.Reading.{take_line, read_from, finished, read_text}
 use Rattle.s_script.proofs.Kept.{Passes, no_cause}
 use Rattle.s_script.proofs.Led.{is_kept, took, made, read_as}
 use Rattle.s_script.proofs.LineTakes.{is_written}
-use Rattle.s_script.proofs.LineAgain.{line_again}
+use Rattle.s_script.proofs.EachAgain.{line_again}
 use Rattle.s_script.proofs.Plain.{is_plain, split_joined, split_plain, filter_plain, line_plain}
 use Rattle.s_script.proofs.ScriptRuns.{Runs, Makes, script_runs}
 

@@ -1,5 +1,5 @@
 -- The lines of a good script are taken one after the other, and make that script.
-use Rattle.std.proofs.Common.{◌≡◌, ℕ, ◌+◌, ◌≤◌, Bool, true, false, not, ◌&&◌, eqb, ltb, leb, List, [], ◌∷◌, ◌++◌, length, map, Some, refl, sym, ap, ◌∙◌, subst, append_assoc, arith}
+use Rattle.std.proofs.Common.{◌≡◌, ℕ, ◌+◌, ◌≤◌, Bool, true, false, not, ◌&&◌, eqb, ltb, leb, List, [], ◌∷◌, ◌++◌, length, map, Option, Some, None, refl, sym, ◌∙◌, subst, append_assoc, arith}
 use Rattle.std.specs.Prelude.{slice_index_or}
 use Rattle.std.specs.List.{list_all, flat_map}
 use Rattle.std.proofs.lemmas.Bool.{and_parts, not-true, ne_eqb, leb-true, lt-ltb}
@@ -18,9 +18,10 @@ use Rattle.spec_script.specs.declared.script_line.ScriptLine.{ScriptLine}
 use Rattle.spec_script.specs.declared.script_line.ScriptLine.TheVariants.{Link, Ticks, FirstNode, SecondNode, Sem, Task, End}
 use Rattle.spec_script.specs.Lines.{no_node, first_node, second_node, key_of, node_line, body_line, declaration_lines, lines_of}
 use Rattle.spec_script.specs.Ranges.{is_in_range, is_repeated, is_written_call, is_written_line, is_written_declaration, are_distinct, IsGood}
-use Rattle.s_script.specs.declared.draft.Stage.TheVariants.{Declares, InTask, Whole}
+use Rattle.s_script.specs.declared.draft.Stage.TheVariants.{Declares, InTask}
 use Rattle.s_script.specs.declared.draft.Draft.{Draft}
-use Rattle.s_script.specs.Drafts.{no_task, start, script_of, moved}
+use Rattle.s_script.specs.Drafts.{no_task, start, script_of, is_last, moved}
+use Rattle.s_script.specs.Reading.{is_whole}
 use Rattle.s_script.proofs.Kept.{Passes}
 use Rattle.s_script.proofs.LineTakes.{is_written}
 
@@ -32,31 +33,31 @@ Runs P d (l ∷ ls) = Passes d l × (is_written l ≡ true) × Runs P (moved d l
 -- ---- a body
 
 -- a draft with an open task
-abbrev in_task : ℕ → ℕ → NodeDecl → TaskDecl → List Line → Draft
-in_task key ticks n task body = record { stage = InTask; key = key; ticks = ticks; first = n; second = no_node; task = task; body = body }
+abbrev in_task : ℕ → ℕ → Option NodeDecl → NodeDecl → TaskDecl → List Line → Draft
+in_task key ticks first n task body = record { stage = InTask; key = key; ticks = ticks; first = first; node = n; task = task; body = body }
 
 -- a body's calls are taken one after the other
-body_runs : (P : Draft → Type 0) (lines : List Line) (key ticks : ℕ) (n : NodeDecl) (task : TaskDecl) (before : List Line) (more : List ScriptLine)
+body_runs : (P : Draft → Type 0) (lines : List Line) (key ticks : ℕ) (first : Option NodeDecl) (n : NodeDecl) (task : TaskDecl) (before : List Line) (more : List ScriptLine)
     → list_all is_written_line lines ≡ true → length before + length lines ≤ 1000
-    → Runs P (in_task key ticks n task (before ++ lines)) more → Runs P (in_task key ticks n task before) (map body_line lines ++ more)
-body_runs P [] key ticks n task before more written short h = subst (λ (body : List Line). Runs P (in_task key ticks n task body) more) (append-nil before) h
-body_runs P (body_lines.Call request ∷ lines) key ticks n task before more written short h =
+    → Runs P (in_task key ticks first n task (before ++ lines)) more → Runs P (in_task key ticks first n task before) (map body_line lines ++ more)
+body_runs P [] key ticks first n task before more written short h = subst (λ (body : List Line). Runs P (in_task key ticks first n task body) more) (append-nil before) h
+body_runs P (body_lines.Call request ∷ lines) key ticks first n task before more written short h =
     let parts = and_parts (is_written_call request) (list_all is_written_line lines) written in
     let room : ltb (length before) 1000 ≡ true = lt-ltb (length before) 1000 (omega arith) in
     let regrouped : before ++ (body_lines.Call request ∷ lines) ≡ (before ++ (body_lines.Call request ∷ [])) ++ lines = sym (append_assoc before (body_lines.Call request ∷ []) lines) in (
       record { place = refl; range = refl; room = room; fresh = refl },
       parts.0,
-      body_runs P lines key ticks n task (before ++ (body_lines.Call request ∷ [])) more parts.1 (omega (arith, length_push before (body_lines.Call request))) (subst (λ (body : List Line). Runs P (in_task key ticks n task body) more) regrouped h),
+      body_runs P lines key ticks first n task (before ++ (body_lines.Call request ∷ [])) more parts.1 (omega (arith, length_push before (body_lines.Call request))) (subst (λ (body : List Line). Runs P (in_task key ticks first n task body) more) regrouped h),
     )
 
 -- ---- declarations
 
 -- a draft between declarations
-abbrev between : ℕ → ℕ → NodeDecl → List Decl → TaskDecl → Draft
-between key ticks n before task = record { stage = Declares; key = key; ticks = ticks; first = record n { decls = before }; second = no_node; task = task; body = [] }
+abbrev between : ℕ → ℕ → Option NodeDecl → NodeDecl → List Decl → TaskDecl → Draft
+between key ticks first n before task = record { stage = Declares; key = key; ticks = ticks; first = first; node = record n { decls = before }; task = task; body = [] }
 
 -- what declarations after others keep
-record AreGood (before ds : List Decl) : Type 0 where
+record GoodAfter (before ds : List Decl) : Type 0 where
   pub ranges : list_all is_in_range (flat_map declaration_lines ds) ≡ true
   pub written : list_all is_written_declaration ds ≡ true
   pub distinct : are_distinct before ds ≡ true
@@ -66,10 +67,10 @@ record FirstGood (before : List Decl) (d : Decl) (ds : List Decl) : Type 0 where
   pub ranges : list_all is_in_range (declaration_lines d) ≡ true
   pub written : is_written_declaration d ≡ true
   pub fresh : is_repeated before d ≡ false
-  pub others : AreGood (before ++ (d ∷ [])) ds
+  pub others : GoodAfter (before ++ (d ∷ [])) ds
 
 -- what declarations keep, the first of them and the others keep
-first_good : (before : List Decl) (d : Decl) (ds : List Decl) → AreGood before (d ∷ ds) → FirstGood before d ds
+first_good : (before : List Decl) (d : Decl) (ds : List Decl) → GoodAfter before (d ∷ ds) → FirstGood before d ds
 first_good before d ds g =
     let ranges = and_parts (list_all is_in_range (declaration_lines d)) (list_all is_in_range (flat_map declaration_lines ds)) (sym (list_all-append is_in_range (declaration_lines d) (flat_map declaration_lines ds)) ∙ g.ranges) in
     let written = and_parts (is_written_declaration d) (list_all is_written_declaration ds) g.written in
@@ -86,13 +87,13 @@ sem_is id false init max e = refl
 sem_is id true init max e = absurd (let none : false ≡ true = e in cc)
 
 -- a semaphore's declaration is taken
-sem_runs : (P : Draft → Type 0) (key ticks : ℕ) (n : NodeDecl) (before : List Decl) (task : TaskDecl) (sem : SemDecl) (ds : List Decl) (more : List ScriptLine)
-    → FirstGood before (declarations.Sem sem) ds → Runs P (between key ticks n (before ++ (declarations.Sem sem ∷ [])) task) more → Runs P (between key ticks n before task) (declaration_lines (declarations.Sem sem) ++ more)
-sem_runs P key ticks n before task sem ds more g h =
+sem_runs : (P : Draft → Type 0) (key ticks : ℕ) (first : Option NodeDecl) (n : NodeDecl) (before : List Decl) (task : TaskDecl) (sem : SemDecl) (ds : List Decl) (more : List ScriptLine)
+    → FirstGood before (declarations.Sem sem) ds → Runs P (between key ticks first n (before ++ (declarations.Sem sem ∷ [])) task) more → Runs P (between key ticks first n before task) (declaration_lines (declarations.Sem sem) ++ more)
+sem_runs P key ticks first n before task sem ds more g h =
     let range = and_parts (is_in_range (Sem (Some sem.id) (Some sem.init) (Some sem.max))) true g.ranges in (
       record { place = refl; range = range.0; room = refl; fresh = g.fresh },
       refl,
-      subst (λ (x : SemDecl). Runs P (between key ticks n (before ++ (declarations.Sem x ∷ [])) task) more) (sym (sem_is sem.id sem.pri sem.init sem.max g.written)) h,
+      subst (λ (x : SemDecl). Runs P (between key ticks first n (before ++ (declarations.Sem x ∷ [])) task) more) (sym (sem_is sem.id sem.pri sem.init sem.max g.written)) h,
     )
 
 -- a written task begins at the start
@@ -105,45 +106,45 @@ task_is id pri true e = refl
 task_is id pri false e = absurd (let none : false ≡ true = e in cc)
 
 -- a task's declaration is taken
-task_runs : (P : Draft → Type 0) (key ticks : ℕ) (n : NodeDecl) (before : List Decl) (open_task task : TaskDecl) (body : Body) (ds : List Decl) (more : List ScriptLine)
-    → FirstGood before (declarations.Task task body) ds → ((t : TaskDecl) → Runs P (between key ticks n (before ++ (declarations.Task task body ∷ [])) t) more)
-    → Runs P (between key ticks n before open_task) (declaration_lines (declarations.Task task body) ++ more)
-task_runs P key ticks n before open_task task body ds more g h =
+task_runs : (P : Draft → Type 0) (key ticks : ℕ) (first : Option NodeDecl) (n : NodeDecl) (before : List Decl) (open_task task : TaskDecl) (body : Body) (ds : List Decl) (more : List ScriptLine)
+    → FirstGood before (declarations.Task task body) ds → ((t : TaskDecl) → Runs P (between key ticks first n (before ++ (declarations.Task task body ∷ [])) t) more)
+    → Runs P (between key ticks first n before open_task) (declaration_lines (declarations.Task task body) ++ more)
+task_runs P key ticks first n before open_task task body ds more g h =
     let t = task_of task.id task.pri true in
     let range = and_parts (is_in_range (Task (Some task.id) (Some task.pri))) (list_all is_in_range (map body_line body.lines ++ (End ∷ []))) g.ranges in
     let written = and_parts task.act (leb (length body.lines) 1000 && list_all is_written_line body.lines) g.written in
     let calls = and_parts (leb (length body.lines) 1000) (list_all is_written_line body.lines) written.1 in
     let short : 0 + length body.lines ≤ 1000 = omega (arith, leb-true (length body.lines) 1000 calls.0) in
-    let declared_task : Runs P (between key ticks n (before ++ (declarations.Task t body ∷ [])) t) more = subst (λ (x : TaskDecl). Runs P (between key ticks n (before ++ (declarations.Task x body ∷ [])) t) more) (sym (task_is task.id task.pri task.act written.0)) (h t) in
-    let ended : Runs P (in_task key ticks (record n { decls = before }) t body.lines) (End ∷ more) = (record { place = refl; range = refl; room = refl; fresh = refl }, refl, declared_task) in (
+    let declared_task : Runs P (between key ticks first n (before ++ (declarations.Task t body ∷ [])) t) more = subst (λ (x : TaskDecl). Runs P (between key ticks first n (before ++ (declarations.Task x body ∷ [])) t) more) (sym (task_is task.id task.pri task.act written.0)) (h t) in
+    let ended : Runs P (in_task key ticks first (record n { decls = before }) t body.lines) (End ∷ more) = (record { place = refl; range = refl; room = refl; fresh = refl }, refl, declared_task) in (
       record { place = refl; range = range.0; room = refl; fresh = g.fresh },
       refl,
-      subst (λ (ls : List ScriptLine). Runs P (in_task key ticks (record n { decls = before }) t []) ls) (sym (append_assoc (map body_line body.lines) (End ∷ []) more))
-          (body_runs P body.lines key ticks (record n { decls = before }) t [] (End ∷ more) calls.1 short ended),
+      subst (λ (ls : List ScriptLine). Runs P (in_task key ticks first (record n { decls = before }) t []) ls) (sym (append_assoc (map body_line body.lines) (End ∷ []) more))
+          (body_runs P body.lines key ticks first (record n { decls = before }) t [] (End ∷ more) calls.1 short ended),
     )
 
 -- declarations are taken one after the other
-declarations_run : (P : Draft → Type 0) (ds : List Decl) (key ticks : ℕ) (n : NodeDecl) (before : List Decl) (task : TaskDecl) (more : List ScriptLine)
-    → AreGood before ds → ((t : TaskDecl) → Runs P (between key ticks n (before ++ ds) t) more) → Runs P (between key ticks n before task) (flat_map declaration_lines ds ++ more)
-declarations_run P [] key ticks n before task more g h = subst (λ (x : List Decl). Runs P (between key ticks n x task) more) (append-nil before) (h task)
-declarations_run P (declarations.Sem sem ∷ ds) key ticks n before task more g h =
+declarations_run : (P : Draft → Type 0) (ds : List Decl) (key ticks : ℕ) (first : Option NodeDecl) (n : NodeDecl) (before : List Decl) (task : TaskDecl) (more : List ScriptLine)
+    → GoodAfter before ds → ((t : TaskDecl) → Runs P (between key ticks first n (before ++ ds) t) more) → Runs P (between key ticks first n before task) (flat_map declaration_lines ds ++ more)
+declarations_run P [] key ticks first n before task more g h = subst (λ (x : List Decl). Runs P (between key ticks first n x task) more) (append-nil before) (h task)
+declarations_run P (declarations.Sem sem ∷ ds) key ticks first n before task more g h =
     let f = first_good before (declarations.Sem sem) ds g in
     let regrouped : before ++ (declarations.Sem sem ∷ ds) ≡ (before ++ (declarations.Sem sem ∷ [])) ++ ds = sym (append_assoc before (declarations.Sem sem ∷ []) ds) in
-    sem_runs P key ticks n before task sem ds (flat_map declaration_lines ds ++ more) f
-    (declarations_run P ds key ticks n (before ++ (declarations.Sem sem ∷ [])) task more f.others (λ t. subst (λ (x : List Decl). Runs P (between key ticks n x t) more) regrouped (h t)))
-declarations_run P (declarations.Task own body ∷ ds) key ticks n before task more g h =
+    sem_runs P key ticks first n before task sem ds (flat_map declaration_lines ds ++ more) f
+    (declarations_run P ds key ticks first n (before ++ (declarations.Sem sem ∷ [])) task more f.others (λ t. subst (λ (x : List Decl). Runs P (between key ticks first n x t) more) regrouped (h t)))
+declarations_run P (declarations.Task own body ∷ ds) key ticks first n before task more g h =
     let f = first_good before (declarations.Task own body) ds g in
     let regrouped : before ++ (declarations.Task own body ∷ ds) ≡ (before ++ (declarations.Task own body ∷ [])) ++ ds = sym (append_assoc before (declarations.Task own body ∷ []) ds) in
     let lines : (declaration_lines (declarations.Task own body) ++ flat_map declaration_lines ds) ++ more ≡ declaration_lines (declarations.Task own body) ++ (flat_map declaration_lines ds ++ more) = append_assoc (declaration_lines (declarations.Task own body)) (flat_map declaration_lines ds) more in
-    subst (λ (ls : List ScriptLine). Runs P (between key ticks n before task) ls) (sym lines)
-    (task_runs P key ticks n before task own body ds (flat_map declaration_lines ds ++ more) f
-    (λ t. declarations_run P ds key ticks n (before ++ (declarations.Task own body ∷ [])) t more f.others (λ u. subst (λ (x : List Decl). Runs P (between key ticks n x u) more) regrouped (h u))))
+    subst (λ (ls : List ScriptLine). Runs P (between key ticks first n before task) ls) (sym lines)
+    (task_runs P key ticks first n before task own body ds (flat_map declaration_lines ds ++ more) f
+    (λ t. declarations_run P ds key ticks first n (before ++ (declarations.Task own body ∷ [])) t more f.others (λ u. subst (λ (x : List Decl). Runs P (between key ticks first n x u) more) regrouped (h u))))
 
 -- ---- a script
 
 -- the draft is whole, and makes the script
 pub record Makes (s : Script) (e : Draft) : Type 0 where
-  pub whole : e.stage ≡ Whole
+  pub whole : is_whole e.stage (is_last e) ≡ true
   pub made : script_of e ≡ s
 
 -- a list of two, read by places
@@ -153,10 +154,6 @@ two_nodes (a ∷ []) e = absurd (omega arith)
 two_nodes (a ∷ b ∷ []) e = refl
 two_nodes (a ∷ b ∷ c ∷ nodes) e = absurd (omega arith)
 
--- a node without declarations
-node_again : (n : NodeDecl) → n.decls ≡ [] → record n { decls = [] } ≡ n
-node_again n e = ap (λ (ds : List Decl). record n { decls = ds }) (sym e)
-
 -- the ranges of a script's lines
 record Ranges (s : Script) : Type 0 where
   pub key : is_in_range (Link (Some (key_of s))) ≡ true
@@ -164,18 +161,30 @@ record Ranges (s : Script) : Type 0 where
   pub first : is_in_range (FirstNode (node_line (first_node s))) ≡ true
   pub declared : list_all is_in_range (flat_map declaration_lines (first_node s).decls) ≡ true
   pub second : is_in_range (SecondNode (node_line (second_node s))) ≡ true
+  pub last_declared : list_all is_in_range (flat_map declaration_lines (second_node s).decls) ≡ true
 
 -- the ranges, line by line
 ranges_of : (s : Script) → list_all is_in_range (lines_of s) ≡ true → Ranges s
 ranges_of s all =
-    let last = SecondNode (node_line (second_node s)) ∷ [] in
-    let tail = flat_map declaration_lines (first_node s).decls ++ last in
+    let ds = flat_map declaration_lines (first_node s).decls in
+    let es = flat_map declaration_lines (second_node s).decls in
+    let last = SecondNode (node_line (second_node s)) ∷ es in
     let a = and_parts (is_in_range (Link (Some (key_of s)))) _ all in
     let b = and_parts (is_in_range (Ticks (Some s.ticks))) _ a.1 in
-    let c = and_parts (is_in_range (FirstNode (node_line (first_node s)))) (list_all is_in_range tail) b.1 in
-    let d = and_parts (list_all is_in_range (flat_map declaration_lines (first_node s).decls)) (list_all is_in_range last) (sym (list_all-append is_in_range (flat_map declaration_lines (first_node s).decls) last) ∙ c.1) in
-    let e = and_parts (is_in_range (SecondNode (node_line (second_node s)))) true d.1 in
-    record { key = a.0; ticks = b.0; first = c.0; declared = d.0; second = e.0 }
+    let c = and_parts (is_in_range (FirstNode (node_line (first_node s)))) (list_all is_in_range (ds ++ last)) b.1 in
+    let d = and_parts (list_all is_in_range ds) (list_all is_in_range last) (sym (list_all-append is_in_range ds last) ∙ c.1) in
+    let e = and_parts (is_in_range (SecondNode (node_line (second_node s)))) (list_all is_in_range es) d.1 in
+    record { key = a.0; ticks = b.0; first = c.0; declared = d.0; second = e.0; last_declared = e.1 }
+
+-- node 1's declarations are taken after node 0, and make the script
+second_runs : (s : Script) → IsGood s → Ranges s → (t : TaskDecl) → Runs (Makes s) (between (key_of s) s.ticks (Some (first_node s)) (second_node s) [] t) (flat_map declaration_lines (second_node s).decls)
+second_runs s g r t =
+    let n = first_node s in
+    let m = second_node s in
+    let made : script_of (between (key_of s) s.ticks (Some n) m m.decls t) ≡ s = rw (two_nodes s.nodes g.two_nodes, ← g.sure_link) refl in
+    let good : GoodAfter [] m.decls = record { ranges = r.last_declared; written = g.second.written; distinct = g.second.distinct } in
+    subst (λ (ls : List ScriptLine). Runs (Makes s) (between (key_of s) s.ticks (Some n) m [] t) ls) (append-nil (flat_map declaration_lines m.decls))
+    (declarations_run (Makes s) m.decls (key_of s) s.ticks (Some n) m [] t [] good (λ u. record { whole = refl; made = made }))
 
 -- the lines of a good script are taken, and make the script
 pub script_runs : (s : Script) → IsGood s → Runs (Makes s) start (lines_of s)
@@ -183,10 +192,10 @@ script_runs s g =
     let r = ranges_of s g.ranges in
     let n = first_node s in
     let m = second_node s in
-    let made : (t : TaskDecl) → script_of (record { stage = Whole; key = key_of s; ticks = s.ticks; first = n; second = record m { decls = [] }; task = t; body = [] }) ≡ s = λ t. rw (node_again m g.bare_second, two_nodes s.nodes g.two_nodes, ← g.sure_link) refl in
     let other : eqb m.addr n.addr ≡ false = ne_eqb m.addr n.addr g.addresses in
-    let last : (t : TaskDecl) → Runs (Makes s) (between (key_of s) s.ticks n n.decls t) (SecondNode (node_line m) ∷ []) = λ t.
-    (record { place = refl; range = r.second; room = rw other refl; fresh = refl }, refl, record { whole = refl; made = made t }) in (
+    let good : GoodAfter [] n.decls = record { ranges = r.declared; written = g.first.written; distinct = g.first.distinct } in
+    let last : (t : TaskDecl) → Runs (Makes s) (between (key_of s) s.ticks None n n.decls t) (SecondNode (node_line m) ∷ flat_map declaration_lines m.decls) = λ t.
+    (record { place = refl; range = r.second; room = rw other refl; fresh = refl }, refl, second_runs s g r t) in (
       record { place = refl; range = refl; room = refl; fresh = refl },
       refl,
       (
@@ -198,7 +207,7 @@ script_runs s g =
           (
             record { place = refl; range = r.first; room = refl; fresh = refl },
             refl,
-            declarations_run (Makes s) n.decls (key_of s) s.ticks n [] no_task (SecondNode (node_line m) ∷ []) (record { ranges = r.declared; written = g.written; distinct = g.distinct }) last,
+            declarations_run (Makes s) n.decls (key_of s) s.ticks None n [] no_task (SecondNode (node_line m) ∷ flat_map declaration_lines m.decls) good last,
           ),
         ),
       ),

@@ -1,5 +1,5 @@
 -- How lines become a script: where each may stand, what is wrong with one, and what it adds to the draft.
-use Rattle.std.specs.Prelude.{Bool, true, false, not, ◌&&◌, List, [], ◌∷◌, ◌++◌, length, Option, Some, None, unwrap_or, map, nat_lt, ◌==◌, if◌then◌else◌}
+use Rattle.std.specs.Prelude.{ℕ, Bool, true, false, not, ◌&&◌, List, [], ◌∷◌, ◌++◌, length, Option, Some, None, is_some, unwrap_or, map, nat_lt, ◌==◌, if◌then◌else◌}
 use Rattle.std.specs.List.{flat_map, list_any}
 use Rattle.it_types.specs.declared.conf.TaskDecl.{TaskDecl}
 use Rattle.spec_script.specs.declared.script.Script.{Script}
@@ -15,7 +15,7 @@ use Rattle.spec_script.specs.Ranges.{is_in_range, body_limit, is_task, is_semaph
 use Rattle.s_script.specs.declared.read_bad.Why.{Why}
 use Rattle.s_script.specs.declared.read_bad.Why.TheVariants.{Form, Range, Twice}
 use Rattle.s_script.specs.declared.draft.Stage.{Stage}
-use Rattle.s_script.specs.declared.draft.Stage.TheVariants.{Start, Headed, Linked, Timed, Declares, InTask, Whole}
+use Rattle.s_script.specs.declared.draft.Stage.TheVariants.{Start, Headed, Linked, Timed, Declares, InTask}
 use Rattle.s_script.specs.declared.draft.Draft.{Draft}
 
 -- ---- a draft and its lines
@@ -26,15 +26,24 @@ no_task = record { id = 0; pri = 0; act = true }
 
 -- before the first line
 abbrev pub start : Draft
-start = record { stage = Start; key = 0; ticks = 0; first = no_node; second = no_node; task = no_task; body = [] }
+start = record { stage = Start; key = 0; ticks = 0; first = None; node = no_node; task = no_task; body = [] }
 
 -- the script of a whole draft
 abbrev pub script_of : Draft → Script
-script_of d = record { link = d.key ∷ 0 ∷ 0 ∷ 0 ∷ []; ticks = d.ticks; nodes = d.first ∷ d.second ∷ [] }
+script_of d = record { link = d.key ∷ 0 ∷ 0 ∷ 0 ∷ []; ticks = d.ticks; nodes = unwrap_or d.first no_node ∷ d.node ∷ [] }
 
--- the lines up to the declarations
-abbrev pub head_of : Draft → List ScriptLine
-head_of d = Itron ∷ Link (Some d.key) ∷ Ticks (Some d.ticks) ∷ FirstNode (node_line d.first) ∷ []
+-- the lines up to the declarations of node 0
+abbrev pub head_of : ℕ → ℕ → NodeLine → List ScriptLine
+head_of key ticks n = Itron ∷ Link (Some key) ∷ Ticks (Some ticks) ∷ FirstNode n ∷ []
+
+-- the lines up to the declarations of the node that has begun last; where it is node 1, all of node 0's are among them
+abbrev pub lines_before : ℕ → ℕ → Option NodeDecl → NodeLine → List ScriptLine
+lines_before key ticks None n = head_of key ticks n
+lines_before key ticks (Some first) n = head_of key ticks (node_line first) ++ (flat_map declaration_lines first.decls ++ (SecondNode n ∷ []))
+
+-- the same of a draft
+abbrev pub begun : Draft → List ScriptLine
+begun d = lines_before d.key d.ticks d.first (node_line d.node)
 
 -- the lines so far, by the stage
 abbrev pub lines_at : Stage → Draft → List ScriptLine
@@ -42,35 +51,38 @@ lines_at Start d = []
 lines_at Headed d = Itron ∷ []
 lines_at Linked d = Itron ∷ Link (Some d.key) ∷ []
 lines_at Timed d = Itron ∷ Link (Some d.key) ∷ Ticks (Some d.ticks) ∷ []
-lines_at Declares d = head_of d ++ flat_map declaration_lines d.first.decls
-lines_at InTask d = head_of d ++ (flat_map declaration_lines d.first.decls ++ (Task (Some d.task.id) (Some d.task.pri) ∷ map body_line d.body))
-lines_at Whole d = head_of d ++ (flat_map declaration_lines d.first.decls ++ (SecondNode (node_line d.second) ∷ []))
+lines_at Declares d = begun d ++ flat_map declaration_lines d.node.decls
+lines_at InTask d = begun d ++ (flat_map declaration_lines d.node.decls ++ (Task (Some d.task.id) (Some d.task.pri) ∷ map body_line d.body))
 
 -- ---- what is wrong with a line
 
--- which line may come at which stage
-abbrev pub in_place : Stage → ScriptLine → Bool
-in_place Start Itron = true
-in_place Headed (Link key) = true
-in_place Linked (Ticks ticks) = true
-in_place Timed (FirstNode n) = true
-in_place Declares (Sem id init max) = true
-in_place Declares (Task id pri) = true
-in_place Declares (SecondNode n) = true
-in_place InTask (Call request fits) = true
-in_place InTask End = true
-in_place _ _ = false
+-- node 1 has begun
+abbrev pub is_last : Draft → Bool
+is_last d = is_some d.first
+
+-- which line may come at which stage; node 1 comes once
+abbrev pub in_place : Stage → Bool → ScriptLine → Bool
+in_place Start last Itron = true
+in_place Headed last (Link key) = true
+in_place Linked last (Ticks ticks) = true
+in_place Timed last (FirstNode n) = true
+in_place Declares last (Sem id init max) = true
+in_place Declares last (Task id pri) = true
+in_place Declares last (SecondNode n) = not last
+in_place InTask last (Call request fits) = true
+in_place InTask last End = true
+in_place _ _ _ = false
 
 -- the bounds that go beyond the line itself: node 1 has an address of its own, and a body is not too long
 abbrev pub has_room : Draft → ScriptLine → Bool
-has_room d (SecondNode n) = not (unwrap_or n.addr 0 == d.first.addr)
+has_room d (SecondNode n) = not (unwrap_or n.addr 0 == d.node.addr)
 has_room d (Call request fits) = nat_lt (length d.body) body_limit
 has_room d _ = true
 
--- the id of this kind was declared before
+-- the node has declared the id of this kind before
 abbrev pub is_declared : Draft → ScriptLine → Bool
-is_declared d (Sem id init max) = list_any (is_semaphore (unwrap_or id 0)) d.first.decls
-is_declared d (Task id pri) = list_any (is_task (unwrap_or id 0)) d.first.decls
+is_declared d (Sem id init max) = list_any (is_semaphore (unwrap_or id 0)) d.node.decls
+is_declared d (Task id pri) = list_any (is_task (unwrap_or id 0)) d.node.decls
 is_declared d _ = false
 
 -- the cause of the first test that is true
@@ -80,7 +92,7 @@ first_cause (test ∷ tests) = if test.0 then Some test.1 else first_cause tests
 
 -- what is wrong with the line, if anything
 abbrev pub cause : Draft → ScriptLine → Option Why
-cause d l = first_cause ((not (in_place d.stage l), Form) ∷ (not (is_in_range l && has_room d l), Range) ∷ (is_declared d l, Twice) ∷ [])
+cause d l = first_cause ((not (in_place d.stage (is_last d) l), Form) ∷ (not (is_in_range l && has_room d l), Range) ∷ (is_declared d l, Twice) ∷ [])
 
 -- ---- what a line adds
 
@@ -97,9 +109,9 @@ abbrev pub moved : Draft → ScriptLine → Draft
 moved d Itron = record d { stage = Headed }
 moved d (Link key) = record d { stage = Linked; key = unwrap_or key 0 }
 moved d (Ticks ticks) = record d { stage = Timed; ticks = unwrap_or ticks 0 }
-moved d (FirstNode n) = record d { stage = Declares; first = node_of n }
-moved d (SecondNode n) = record d { stage = Whole; second = node_of n }
-moved d (Sem id init max) = record d { stage = Declares; first = declared d.first (declarations.Sem (record { id = unwrap_or id 0; pri = false; init = unwrap_or init 0; max = unwrap_or max 0 })) }
+moved d (FirstNode n) = record d { stage = Declares; first = None; node = node_of n }
+moved d (SecondNode n) = record d { stage = Declares; first = Some d.node; node = node_of n }
+moved d (Sem id init max) = record d { stage = Declares; node = declared d.node (declarations.Sem (record { id = unwrap_or id 0; pri = false; init = unwrap_or init 0; max = unwrap_or max 0 })) }
 moved d (Task id pri) = record d { stage = InTask; task = record { id = unwrap_or id 0; pri = unwrap_or pri 0; act = true }; body = [] }
 moved d (Call request fits) = record d { stage = InTask; body = d.body ++ body_lines.Call request ∷ [] }
-moved d End = record d { stage = Declares; first = declared d.first (declarations.Task d.task (record { lines = d.body })); body = [] }
+moved d End = record d { stage = Declares; node = declared d.node (declarations.Task d.task (record { lines = d.body })); body = [] }

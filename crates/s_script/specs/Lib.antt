@@ -1,5 +1,6 @@
 pub mod Cursor
 pub mod Numbers
+pub mod Data
 pub mod LineKinds
 pub mod Cutting
 pub mod Drafts

@@ -1,5 +1,5 @@
 -- How numbers and addresses are read.
-use Rattle.std.specs.Prelude.{ℕ, ◌+◌, ◌*◌, Bool, true, false, not, ◌||◌, List, [], ◌∷◌, Option, Some, None, nat_lt, ◌==◌, if◌then◌else◌, codes}
+use Rattle.std.specs.Prelude.{ℕ, ◌+◌, ◌*◌, Bool, true, false, not, ◌||◌, List, [], ◌∷◌, Option, Some, None, is_some, unwrap_or, nat_lt, ◌==◌, if◌then◌else◌, codes}
 use Rattle.std.specs.Char.{is_ascii_digit}
 use Rattle.std.specs.Str.Parse.{digits_value}
 use Rattle.s_script.specs.Cursor.{◌>>=◌, after, split_while}
@@ -17,6 +17,14 @@ is_numeral (digit ∷ digits) = not (digit == 48) || is_empty digits
 abbrev pub below : ℕ → Option ℕ → Option ℕ
 below limit None = None
 below limit (Some n) = if nat_lt n limit then Some n else None
+
+-- a number that is below a limit; one that isn't stands as 0
+abbrev pub below_or_0 : ℕ → Option ℕ → ℕ
+below_or_0 limit number = unwrap_or (below limit number) 0
+
+-- the number is below the limit
+abbrev pub is_below : ℕ → Option ℕ → Bool
+is_below limit number = is_some (below limit number)
 
 -- one more digit of a number
 abbrev pub push_digit : Option ℕ → ℕ → Option ℕ

@@ -1,5 +1,5 @@
 -- How a text is read: line after line up to the first that is wrong.
-use Rattle.std.specs.Prelude.{◌≡◌, ℕ, ◌+◌, Bool, true, false, List, [], ◌∷◌, Option, Some, None, Result, Ok, Err, if◌then◌else◌}
+use Rattle.std.specs.Prelude.{◌≡◌, ℕ, ◌+◌, Bool, false, List, [], ◌∷◌, Option, Some, None, Result, Ok, Err, if◌then◌else◌}
 use Rattle.spec_script.specs.declared.script.Script.{Script}
 use Rattle.spec_script.specs.declared.script_line.ScriptLine.{ScriptLine}
 use Rattle.spec_script.specs.Text.{split_lines, is_skipped}
@@ -11,7 +11,7 @@ use Rattle.s_script.specs.declared.draft.Stage.{Stage}
 use Rattle.s_script.specs.declared.draft.Stage.TheVariants as stages
 use Rattle.s_script.specs.declared.draft.Draft.{Draft}
 use Rattle.s_script.specs.LineKinds.{line_of}
-use Rattle.s_script.specs.Drafts.{start, script_of, cause, moved}
+use Rattle.s_script.specs.Drafts.{start, script_of, is_last, cause, moved}
 
 -- the draft after a line that has no cause to be refused
 abbrev pub with_cause : Draft → ScriptLine → Option Why → Result Draft Why
@@ -27,14 +27,14 @@ with_line d (Some l) = with_cause d l (cause d l)
 unfoldable pub take_line : Draft → List ℕ → Result Draft Why
 take_line d bytes = if is_skipped bytes then Ok d else with_line d (line_of bytes)
 
--- the last line has come
-abbrev pub is_whole : Stage → Bool
-is_whole stages.Whole = true
-is_whole _ = false
+-- node 1 has begun, and no body is open
+abbrev pub is_whole : Stage → Bool → Bool
+is_whole stages.Declares last = last
+is_whole _ last = false
 
 -- at the end, before line number: nothing is left that has no LF, and the draft is whole
 abbrev pub at_end_of_text : ℕ → Draft → List ℕ → Result Draft (ℕ × Why)
-at_end_of_text number d [] = if is_whole d.stage then Ok d else Err (number, Missing)
+at_end_of_text number d [] = if is_whole d.stage (is_last d) then Ok d else Err (number, Missing)
 at_end_of_text number d (byte ∷ bytes) = Err (number, Missing)
 
 -- a cause with its line's number

@@ -5,11 +5,13 @@ ghost use Rattle.s_script.specs.LineKinds.{timeout_word, ticks_of, timeout_numbe
 use crate::cursor::{after, at_end, is_word};
 use crate::numbers::{number_at, u32_of};
 use crate::ranges::{MAX_TIME, is_within, is_written_timeout};
+use crate::udp_calls::{udp_cre_cep_line, udp_rcv_dat_line};
 use it_types::{ObjId, Req, Tmo};
 use spec_script::ScriptLine;
 
+/// The time-out and the bytes after its word, where they begin with it.
 #[tactic(auto, unfolding(crate::specs::Cursor::and_then, crate::specs::LineKinds::timeout_word))]
-fn timeout_word<'a>(word: &[u8], timeout: Tmo, bytes: &'a [u8]) -> Option<(Tmo, &'a [u8])>
+pub fn timeout_word<'a>(word: &[u8], timeout: Tmo, bytes: &'a [u8]) -> Option<(Tmo, &'a [u8])>
     ensures { Gives (λ x. (x.0, x.1.now)) result (timeout_word word.now timeout bytes.now) }
 {
     let rest = after(word, bytes)?;
@@ -30,8 +32,9 @@ fn timeout_number(bytes: &[u8]) -> Option<(Tmo, &[u8])>
     Some((Tmo::Ms(ticks_of(ticks)), rest))
 }
 
+/// The time-out at the front, `pol`, `fevr` or a number of ticks, and the bytes after it.
 #[tactic(auto, unfolding(crate::specs::LineKinds::timeout_at))]
-fn timeout_at(bytes: &[u8]) -> Option<(Tmo, &[u8])>
+pub fn timeout_at(bytes: &[u8]) -> Option<(Tmo, &[u8])>
     ensures { Gives (λ x. (x.0, x.1.now)) result (timeout_at bytes.now) }
 {
     if let Some(timeout) = timeout_word(b"pol", Tmo::Pol, bytes) {
@@ -87,7 +90,7 @@ fn dly_tsk_line(bytes: &[u8]) -> Option<ScriptLine>
     at_end(rest, ScriptLine::Call { req, fits })
 }
 
-/// The call that begins with the word and goes on with the bytes.
+/// The call that begins with the word and goes on with the bytes, where it has no data.
 pub fn call_line(word: &[u8], bytes: &[u8]) -> Option<ScriptLine>
     ensures { result ≡ by_word call_kinds word.now bytes.now }
 {
@@ -97,6 +100,10 @@ pub fn call_line(word: &[u8], bytes: &[u8]) -> Option<ScriptLine>
         twai_sem_line(bytes)
     } else if is_word(word, b"dly_tsk") {
         dly_tsk_line(bytes)
+    } else if is_word(word, b"udp_cre_cep") {
+        udp_cre_cep_line(bytes)
+    } else if is_word(word, b"udp_rcv_dat") {
+        udp_rcv_dat_line(bytes)
     } else {
         None
     }

@@ -4,8 +4,6 @@ ghost use Rattle.std.specs.Cmp.Lexicographic.{pointwise};
 ghost use Rattle.s_script.specs.Cursor.{Gives, after, at_end, split_while};
 ghost use Rattle.s_script.specs.LineKinds.{is_no_space};
 
-use spec_script::ScriptLine;
-
 /// The bytes after the word, where they begin with it.
 pub fn after<'a>(word: &[u8], bytes: &'a [u8]) -> Option<&'a [u8]>
     ensures { Gives (λ x. x.now) result (after word.now bytes.now) }
@@ -13,12 +11,12 @@ pub fn after<'a>(word: &[u8], bytes: &'a [u8]) -> Option<&'a [u8]>
     bytes.strip_prefix(word)
 }
 
-/// The line, where nothing follows it.
-pub fn at_end(rest: &[u8], line: ScriptLine) -> Option<ScriptLine>
-    ensures { result ≡ at_end rest.now line }
+/// What was read, where nothing follows it.
+pub fn at_end<T: Drop>(rest: &[u8], read: T) -> Option<T>
+    ensures { result ≡ at_end rest.now read }
 {
     match rest {
-        [] => Some(line),
+        [] => Some(read),
         [_, ..] => None,
     }
 }

@@ -3,12 +3,12 @@ ghost use Rattle.std.specs.Option.{ForSome};
 ghost use Rattle.std.specs.List.{list_any};
 ghost use Rattle.spec_script.specs.Lines.{no_node};
 ghost use Rattle.spec_script.specs.Ranges.{is_node_in_range, is_in_range, is_task, is_semaphore};
-ghost use Rattle.s_script.specs.Drafts.{start, script_of, in_place, has_room, is_declared, cause, node_of, moved};
+ghost use Rattle.s_script.specs.Drafts.{start, is_last, in_place, has_room, is_declared, cause, node_of, moved};
 
 use crate::Why;
 use crate::ranges::is_in_range;
 use it_types::{List, NoMemory, SemDecl, TaskDecl};
-use spec_script::{Body, Decl, Line, NodeDecl, NodeLine, Script, ScriptLine};
+use spec_script::{Body, Decl, Line, NodeDecl, NodeLine, ScriptLine};
 use std::alloc::Global;
 use std::mem;
 
@@ -26,12 +26,10 @@ pub enum Stage {
     Linked,
     /// `ticks` has come.
     Timed,
-    /// Node 0 has begun.
+    /// A node has begun, and no body is open.
     Declares,
     /// A task's body is open.
     InTask,
-    /// Node 1 has come, and with it the last line.
-    Whole,
 }
 
 /// The script so far; a field that the stage does not use has no meaning.
@@ -40,8 +38,10 @@ pub struct Draft {
     pub stage: Stage,
     pub key: u64,
     pub ticks: u32,
-    pub first: NodeDecl,
-    pub second: NodeDecl,
+    /// Node 0, once node 1 has begun.
+    pub first: Option<NodeDecl>,
+    /// The node that has begun last, to which declarations go.
+    pub node: NodeDecl,
     /// The task whose body is open, and that body.
     pub task: TaskDecl,
     pub body: List<Line>,
@@ -80,9 +80,9 @@ fn node_of(alloc: Global, line: NodeLine) -> NodeDecl
     }
 }
 
-/// Whether the line may come at the stage.
-fn in_place(stage: Stage, line: &ScriptLine) -> bool
-    ensures { result ≡ in_place stage line.now }
+/// Whether the line may come at the stage; `last` says that node 1 has begun.
+fn in_place(stage: Stage, last: bool, line: &ScriptLine) -> bool
+    ensures { result ≡ in_place stage last line.now }
 {
     match (stage, line) {
         (Stage::Start, ScriptLine::Itron) => true,
@@ -91,7 +91,7 @@ fn in_place(stage: Stage, line: &ScriptLine) -> bool
         (Stage::Timed, ScriptLine::FirstNode(_)) => true,
         (Stage::Declares, ScriptLine::Sem { .. }) => true,
         (Stage::Declares, ScriptLine::Task { .. }) => true,
-        (Stage::Declares, ScriptLine::SecondNode(_)) => true,
+        (Stage::Declares, ScriptLine::SecondNode(_)) => !last,
         (Stage::InTask, ScriptLine::Call { .. }) => true,
         (Stage::InTask, ScriptLine::End) => true,
         _ => false,
@@ -137,8 +137,8 @@ impl Draft {
             stage: Stage::Start,
             key: 0,
             ticks: 0,
-            first: no_node(alloc),
-            second: no_node(alloc),
+            first: None,
+            node: no_node(alloc),
             task: TaskDecl {
                 id: 0,
                 pri: 0,
@@ -148,31 +148,18 @@ impl Draft {
         }
     }
 
-    /// The script of a whole draft.
-    pub fn into_script(self) -> Script
-        ensures { result ≡ script_of self }
+    /// Whether node 1 has begun.
+    fn is_last(&self) -> bool
+        ensures { result ≡ is_last self.now }
     {
-        let Draft {
-            stage: _,
-            key,
-            ticks,
-            first,
-            second,
-            task: _,
-            body: _,
-        } = self;
-        Script {
-            link: [key, 0, 0, 0],
-            ticks,
-            nodes: [first, second],
-        }
+        self.first.is_some()
     }
 
     fn has_room(&self, line: &ScriptLine) -> bool
         ensures { result ≡ has_room self.now line.now }
     {
         match line {
-            ScriptLine::SecondNode(node) => node.addr.unwrap_or(0) != self.first.addr,
+            ScriptLine::SecondNode(node) => node.addr.unwrap_or(0) != self.node.addr,
             ScriptLine::Call { .. } => self.body.len() < BODY_LIMIT,
             _ => true,
         }
@@ -183,10 +170,10 @@ impl Draft {
     {
         match line {
             ScriptLine::Task { id, .. } => {
-                declares_task(self.first.decls.as_slice(), id.unwrap_or(0))
+                declares_task(self.node.decls.as_slice(), id.unwrap_or(0))
             }
             ScriptLine::Sem { id, .. } => {
-                declares_semaphore(self.first.decls.as_slice(), id.unwrap_or(0))
+                declares_semaphore(self.node.decls.as_slice(), id.unwrap_or(0))
             }
             _ => false,
         }
@@ -196,7 +183,7 @@ impl Draft {
     pub fn cause(&self, line: &ScriptLine) -> Option<Why>
         ensures { result ≡ cause self.now line.now }
     {
-        if !in_place(self.stage, line) {
+        if !in_place(self.stage, self.is_last(), line) {
             Some(Why::Form)
         } else if !(is_in_range(line) && self.has_room(line)) {
             Some(Why::Range)
@@ -211,9 +198,7 @@ impl Draft {
         ensures { OnOk result (self.new ≡ moved self.old ScriptLine.End) }
     {
         let lines = mem::replace(&mut self.body, List::new(alloc));
-        self.first
-            .decls
-            .push(Decl::Task(self.task, Body { lines }))?;
+        self.node.decls.push(Decl::Task(self.task, Body { lines }))?;
         self.stage = Stage::Declares;
         Ok(())
     }
@@ -235,11 +220,12 @@ impl Draft {
             }
             ScriptLine::FirstNode(node) => {
                 self.stage = Stage::Declares;
-                self.first = node_of(alloc, node);
+                self.first = None;
+                self.node = node_of(alloc, node);
             }
             ScriptLine::SecondNode(node) => {
-                self.stage = Stage::Whole;
-                self.second = node_of(alloc, node);
+                self.stage = Stage::Declares;
+                self.first = Some(mem::replace(&mut self.node, node_of(alloc, node)));
             }
             ScriptLine::Sem { id, init, max } => {
                 let sem = SemDecl {
@@ -249,7 +235,7 @@ impl Draft {
                     max: to_u32(max),
                 };
                 self.stage = Stage::Declares;
-                self.first.decls.push(Decl::Sem(sem))?;
+                self.node.decls.push(Decl::Sem(sem))?;
             }
             ScriptLine::Task { id, pri } => {
                 self.stage = Stage::InTask;

@@ -2,7 +2,9 @@
 #![tactic(auto)]
 
 mod calls;
+mod conf;
 mod cursor;
+mod data;
 mod draft;
 mod line;
 mod lines;
@@ -11,7 +13,9 @@ mod print;
 mod ranges;
 mod read_bad;
 mod reader;
+mod udp_calls;
 
+pub use conf::conf_of;
 pub use print::print_into;
 pub use read_bad::{ReadBad, Why};
 pub use reader::{first_wrong, read, reading};

@@ -1,11 +1,14 @@
-ghost use Rattle.std.specs.Prelude.{◌≡◌};
+ghost use Rattle.std.specs.Prelude.{◌≡◌, ◌++◌, IfOk};
 ghost use Rattle.s_script.specs.Cursor.{Gives};
-ghost use Rattle.s_script.specs.LineKinds.{itron_line, link_line, ticks_line, node_at, first_node_line, second_node_line, either_node_line, sem_line, task_line, end_line, line_of};
+ghost use Rattle.s_script.specs.LineKinds.{itron_line, link_line, ticks_line, node_at, first_node_line, second_node_line, either_node_line, sem_line, task_line, end_line, call_kinds, other_kinds, by_word, line_of};
 
 use crate::calls::call_line;
 use crate::cursor::{after, at_end, is_word, split_word};
 use crate::numbers::{address_at, number_at};
+use crate::udp_calls::udp_snd_dat_line;
+use it_types::NoMemory;
 use spec_script::{NodeLine, ScriptLine};
+use std::alloc::Global;
 
 #[tactic(auto, unfolding(crate::specs::Cursor::and_then, crate::specs::LineKinds::itron_line))]
 fn itron_line(bytes: &[u8]) -> Option<ScriptLine>
@@ -99,27 +102,38 @@ fn task_line(bytes: &[u8]) -> Option<ScriptLine>
     at_end(rest, ScriptLine::Task { id, pri })
 }
 
+/// The line that begins with the word and goes on with the bytes, where it has no data.
+fn plain_line(word: &[u8], bytes: &[u8]) -> Option<ScriptLine>
+    ensures { result ≡ by_word (other_kinds ++ call_kinds) word.now bytes.now }
+{
+    if is_word(word, b"itron") {
+        itron_line(bytes)
+    } else if is_word(word, b"link") {
+        link_line(bytes)
+    } else if is_word(word, b"ticks") {
+        ticks_line(bytes)
+    } else if is_word(word, b"node") {
+        either_node_line(bytes)
+    } else if is_word(word, b"sem") {
+        sem_line(bytes)
+    } else if is_word(word, b"task") {
+        task_line(bytes)
+    } else if is_word(word, b"end") {
+        at_end(bytes, ScriptLine::End)
+    } else {
+        call_line(word, bytes)
+    }
+}
+
 /// The line that bytes without LF are read as, if they are one.
 #[tactic(auto, unfolding(crate::specs::LineKinds::line_of))]
-pub fn line_of(bytes: &[u8]) -> Option<ScriptLine>
-    ensures { result ≡ line_of bytes.now }
+pub fn line_of(alloc: Global, bytes: &[u8]) -> Result<Option<ScriptLine>, NoMemory>
+    ensures { IfOk result (λ line. line ≡ line_of bytes.now) }
 {
     let (word, rest) = split_word(bytes);
-    if is_word(word, b"itron") {
-        itron_line(rest)
-    } else if is_word(word, b"link") {
-        link_line(rest)
-    } else if is_word(word, b"ticks") {
-        ticks_line(rest)
-    } else if is_word(word, b"node") {
-        either_node_line(rest)
-    } else if is_word(word, b"sem") {
-        sem_line(rest)
-    } else if is_word(word, b"task") {
-        task_line(rest)
-    } else if is_word(word, b"end") {
-        at_end(rest, ScriptLine::End)
+    if is_word(word, b"udp_snd_dat") {
+        udp_snd_dat_line(alloc, rest)
     } else {
-        call_line(word, rest)
+        Ok(plain_line(word, rest))
     }
 }

@@ -81,6 +81,18 @@ pub fn u32_of(number: Option<u64>) -> Option<u32>
     }
 }
 
+/// The number, where it has 16 bits.
+pub fn u16_of(number: Option<u64>) -> Option<u16>
+    ensures { result ≡ below 65536 number }
+{
+    let number = number?;
+    if number < 65536 {
+        Some(number as u16)
+    } else {
+        None
+    }
+}
+
 #[tactic(auto, unfolding(crate::specs::Cursor::and_then, crate::specs::Numbers::address_of))]
 fn address_of(a: Option<u64>, b: Option<u64>, c: Option<u64>, d: Option<u64>) -> Option<u32>
     ensures { result ≡ address_of a b c d }

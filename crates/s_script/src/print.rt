@@ -2,22 +2,24 @@ ghost use Rattle.std.specs.Prelude.{◌≡◌, [], ◌∷◌, ◌++◌, OnOk, On
 ghost use Rattle.std.specs.List.{flat_map};
 ghost use Rattle.spec_script.specs.Lines.{ended, spelled, node_text, body_line, declaration_lines, first_node, second_node, head_lines, node_line, script_text};
 
+use it_types::words::{put_number, put_numbered, put_word};
 use it_types::{NoMemory, SemDecl, TaskDecl, spell_into};
 use spec_script::{Body, Decl, Line, NodeDecl, Script, ScriptLine};
 use std::alloc::Global;
 
-fn put_link(alloc: Global, out: &mut Vec<u8>, key: u64) -> Result<(), NoMemory>
+fn put_link(out: &mut Vec<u8>, key: u64) -> Result<(), NoMemory>
     ensures { OnOk result (out.new.items ≡ out.old.items ++ spelled (ScriptLine.Link (Some key))) }
 {
-    let line = format!(in alloc; "link {key} 0 0 0\n")?;
-    Ok(out.extend_from_slice(line.as_bytes())?)
+    put_word(out, b"link ")?;
+    put_number(out, key)?;
+    put_word(out, b" 0 0 0\n")
 }
 
-fn put_ticks(alloc: Global, out: &mut Vec<u8>, ticks: u32) -> Result<(), NoMemory>
+fn put_ticks(out: &mut Vec<u8>, ticks: u32) -> Result<(), NoMemory>
     ensures { OnOk result (out.new.items ≡ out.old.items ++ spelled (ScriptLine.Ticks (Some ticks))) }
 {
-    let line = format!(in alloc; "ticks {ticks}\n")?;
-    Ok(out.extend_from_slice(line.as_bytes())?)
+    put_numbered(out, b"ticks ", ticks)?;
+    put_word(out, b"\n")
 }
 
 fn put_node(alloc: Global, out: &mut Vec<u8>, node: &NodeDecl) -> Result<(), NoMemory>
@@ -26,35 +28,38 @@ fn put_node(alloc: Global, out: &mut Vec<u8>, node: &NodeDecl) -> Result<(), NoM
     let (a, b) = (node.addr / 16777216, node.addr / 65536 % 256);
     let (c, d) = (node.addr / 256 % 256, node.addr % 256);
     let line = format!(in alloc; "{a}.{b}.{c}.{d} {} {}\n", node.isn0, node.top0)?;
-    Ok(out.extend_from_slice(line.as_bytes())?)
+    put_word(out, line.as_bytes())
 }
 
 fn put_first_node(alloc: Global, out: &mut Vec<u8>, node: &NodeDecl) -> Result<(), NoMemory>
     ensures { OnOk result (out.new.items ≡ out.old.items ++ spelled (ScriptLine.FirstNode (node_line node.now))) }
 {
-    out.extend_from_slice(b"node 0 ")?;
+    put_word(out, b"node 0 ")?;
     put_node(alloc, out, node)
 }
 
 fn put_second_node(alloc: Global, out: &mut Vec<u8>, node: &NodeDecl) -> Result<(), NoMemory>
     ensures { OnOk result (out.new.items ≡ out.old.items ++ spelled (ScriptLine.SecondNode (node_line node.now))) }
 {
-    out.extend_from_slice(b"node 1 ")?;
+    put_word(out, b"node 1 ")?;
     put_node(alloc, out, node)
 }
 
-fn put_sem(alloc: Global, out: &mut Vec<u8>, sem: SemDecl) -> Result<(), NoMemory>
+fn put_sem(out: &mut Vec<u8>, sem: SemDecl) -> Result<(), NoMemory>
     ensures { OnOk result (out.new.items ≡ out.old.items ++ spelled (ScriptLine.Sem (Some sem.id) (Some sem.init) (Some sem.max))) }
 {
-    let line = format!(in alloc; "sem {} fifo {} {}\n", sem.id, sem.init, sem.max)?;
-    Ok(out.extend_from_slice(line.as_bytes())?)
+    put_numbered(out, b"sem ", sem.id)?;
+    put_numbered(out, b" fifo ", sem.init)?;
+    put_numbered(out, b" ", sem.max)?;
+    put_word(out, b"\n")
 }
 
-fn put_task(alloc: Global, out: &mut Vec<u8>, task: TaskDecl) -> Result<(), NoMemory>
+fn put_task(out: &mut Vec<u8>, task: TaskDecl) -> Result<(), NoMemory>
     ensures { OnOk result (out.new.items ≡ out.old.items ++ spelled (ScriptLine.Task (Some task.id) (Some task.pri))) }
 {
-    let line = format!(in alloc; "task {} {} act\n", task.id, task.pri)?;
-    Ok(out.extend_from_slice(line.as_bytes())?)
+    put_numbered(out, b"task ", task.id)?;
+    put_numbered(out, b" ", task.pri)?;
+    put_word(out, b" act\n")
 }
 
 fn put_body_line(alloc: Global, out: &mut Vec<u8>, line: &Line) -> Result<(), NoMemory>
@@ -63,7 +68,7 @@ fn put_body_line(alloc: Global, out: &mut Vec<u8>, line: &Line) -> Result<(), No
     match line {
         Line::Call { req } => spell_into(alloc, req, out)?,
     }
-    Ok(out.extend_from_slice(b"\n")?)
+    put_word(out, b"\n")
 }
 
 fn put_body(alloc: Global, out: &mut Vec<u8>, body: &Body) -> Result<(), NoMemory>
@@ -80,11 +85,11 @@ fn put_declaration(alloc: Global, out: &mut Vec<u8>, decl: &Decl) -> Result<(), 
 {
     match decl {
         Decl::Task(task, body) => {
-            put_task(alloc, out, *task)?;
+            put_task(out, *task)?;
             put_body(alloc, out, body)?;
-            Ok(out.extend_from_slice(b"end\n")?)
+            put_word(out, b"end\n")
         }
-        Decl::Sem(sem) => put_sem(alloc, out, *sem),
+        Decl::Sem(sem) => put_sem(out, *sem),
     }
 }
 
@@ -112,10 +117,17 @@ fn second_node(s: &Script) -> &NodeDecl
 fn put_head(alloc: Global, out: &mut Vec<u8>, s: &Script) -> Result<(), NoMemory>
     ensures { OnOk result (out.new.items ≡ out.old.items ++ flat_map spelled (head_lines s.now)) }
 {
-    out.extend_from_slice(b"itron 1\n")?;
-    put_link(alloc, out, s.link[0])?;
-    put_ticks(alloc, out, s.ticks)?;
+    put_word(out, b"itron 1\n")?;
+    put_link(out, s.link[0])?;
+    put_ticks(out, s.ticks)?;
     put_first_node(alloc, out, first_node(s))
+}
+
+fn put_last_lines(alloc: Global, out: &mut Vec<u8>, node: &NodeDecl) -> Result<(), NoMemory>
+    ensures { OnOk result (out.new.items ≡ out.old.items ++ flat_map spelled (ScriptLine.SecondNode (node_line node.now) ∷ flat_map declaration_lines node.now.decls)) }
+{
+    put_second_node(alloc, out, node)?;
+    put_declarations(alloc, out, node.decls.as_slice())
 }
 
 fn put_script(alloc: Global, out: &mut Vec<u8>, s: &Script) -> Result<(), NoMemory>
@@ -123,7 +135,7 @@ fn put_script(alloc: Global, out: &mut Vec<u8>, s: &Script) -> Result<(), NoMemo
 {
     put_head(alloc, out, s)?;
     put_declarations(alloc, out, first_node(s).decls.as_slice())?;
-    put_second_node(alloc, out, second_node(s))
+    put_last_lines(alloc, out, second_node(s))
 }
 
 /// Appends the printed form of the script; without memory `out` stays as it was.

@@ -1,5 +1,5 @@
 ghost use Rattle.std.specs.Prelude.{◌≡◌};
-ghost use Rattle.spec_script.specs.Ranges.{within, is_at_most, is_node_in_range, is_in_range, is_written_timeout};
+ghost use Rattle.spec_script.specs.Ranges.{within, is_at_most, is_node_in_range, is_in_range, is_written_timeout, is_network_timeout};
 
 use it_types::Tmo;
 use spec_script::{NodeLine, ScriptLine};
@@ -60,6 +60,16 @@ pub fn is_written_timeout(timeout: Tmo) -> bool
         Tmo::Pol | Tmo::Fevr => true,
         Tmo::Nblk => false,
         Tmo::Ms(ticks) => is_within(1, Some(u64::from(ticks)), MAX_TIME),
+    }
+}
+
+/// Whether a script can write the time-out of a call of the network part.
+pub fn is_network_timeout(timeout: Tmo) -> bool
+    ensures { result ≡ is_network_timeout timeout }
+{
+    match timeout {
+        Tmo::Nblk => true,
+        _ => is_written_timeout(timeout),
     }
 }
 

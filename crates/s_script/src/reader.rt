@@ -18,7 +18,7 @@ fn take_line(alloc: Global, draft: &mut Draft, number: usize, line: &[u8]) -> Re
     if is_skipped(line) {
         return Ok(());
     }
-    let Some(line) = line_of(line) else {
+    let Some(line) = line_of(alloc, line)? else {
         return Err(ReadBad::Refused(number, Why::Form));
     };
     if let Some(why) = draft.cause(&line) {
@@ -32,8 +32,21 @@ fn take_line(alloc: Global, draft: &mut Draft, number: usize, line: &[u8]) -> Re
 fn finish(draft: Draft, number: usize, rest: &[u8]) -> Result<Script, ReadBad>
     ensures { Reads (λ s. s) result (finished (at_end_of_text number draft rest.now)) }
 {
-    match (draft.stage, rest) {
-        (Stage::Whole, []) => Ok(draft.into_script()),
+    let Draft {
+        stage,
+        key,
+        ticks,
+        first,
+        node,
+        task: _,
+        body: _,
+    } = draft;
+    match (stage, first, rest) {
+        (Stage::Declares, Some(first), []) => Ok(Script {
+            link: [key, 0, 0, 0],
+            ticks,
+            nodes: [first, node],
+        }),
         _ => Err(ReadBad::Refused(number, Why::Missing)),
     }
 }

@@ -1,11 +1,11 @@
 use super::*;
-use it_types::{KReq, NoMemory, ObjId, Tmo};
+use it_types::{CepId, EndPt, KReq, NoMemory, ObjId, Req, SemDecl, TaskDecl, Tmo};
 use spec_script::{Decl, Line, Script};
 use std::alloc::Global;
 use std::test::*;
 
 const SCRIPT: &[u8] =
-    b"itron 1\nlink 1 0 0 0\nticks 10\nnode 0 10.0.0.1 0 0\nsem 1 fifo 0 1\ntask 1 1 act\ntwai_sem 1 fevr\ntwai_sem 2 pol\ntwai_sem 0 1\ntwai_sem 4294967295 1000000\nend\ntask 2 2 act\ndly_tsk 0\nsig_sem 1\ndly_tsk 1000000\nend\nnode 1 10.0.0.2 0 0\n";
+    b"itron 1\nlink 1 0 0 0\nticks 10\nnode 0 10.0.0.1 0 0\nsem 1 fifo 0 1\ntask 1 1 act\ntwai_sem 1 fevr\ntwai_sem 2 pol\ntwai_sem 0 1\ntwai_sem 4294967295 1000000\nend\ntask 2 2 act\ndly_tsk 0\nsig_sem 1\ndly_tsk 1000000\nend\nnode 1 10.0.0.2 5 6\ntask 1 3 act\nudp_cre_cep 4294967295 65535 0\nudp_snd_dat 1 0.0.0.0:0 x nblk\nudp_snd_dat 2 192.168.0.255:7 x68690aff 9\nudp_rcv_dat 3 1500 pol\nend\nsem 1 fifo 2 3\n";
 
 #[test]
 fn prints_what_it_read(rt: HostRuntime) -> Result<(), Fail> {
@@ -16,7 +16,20 @@ fn prints_what_it_read(rt: HostRuntime) -> Result<(), Fail> {
     Ok(())
 }
 
-/// The calls of the task with the id.
+/// The call, where it is one of the kernel's.
+fn kernel_call(req: &Req) -> Option<KReq> {
+    match req {
+        Req::DlyTsk { ms } => Some(KReq::DlyTsk { ms: *ms }),
+        Req::SigSem { sem } => Some(KReq::SigSem { sem: *sem }),
+        Req::TwaiSem { sem, tmo } => Some(KReq::TwaiSem {
+            sem: *sem,
+            tmo: *tmo,
+        }),
+        _ => None,
+    }
+}
+
+/// The kernel's calls of the task with the id.
 fn calls_of(alloc: Global, script: &Script, id: u32) -> Result<Vec<KReq>, NoMemory> {
     let mut calls = Vec::new(alloc);
     for decl in script.nodes[0].decls.as_slice() {
@@ -24,7 +37,9 @@ fn calls_of(alloc: Global, script: &Script, id: u32) -> Result<Vec<KReq>, NoMemo
             if task.id == id {
                 for line in body.lines.as_slice() {
                     let Line::Call { req } = line;
-                    calls.push(req.kernel_part())?;
+                    if let Some(call) = kernel_call(req) {
+                        calls.push(call)?;
+                    }
                 }
             }
         }
@@ -64,13 +79,86 @@ fn reads_each_call(rt: HostRuntime) -> Result<(), Fail> {
     Ok(())
 }
 
+/// Who sends how many bytes where, and how long each call may wait, in the bodies of node 1; and all bytes that are sent.
+fn sendings(
+    alloc: Global,
+    script: &Script,
+) -> Result<(Vec<(CepId, usize, EndPt, Tmo)>, Vec<u8>), NoMemory> {
+    let mut calls = Vec::new(alloc);
+    let mut sent = Vec::new(alloc);
+    for decl in script.nodes[1].decls.as_slice() {
+        if let Decl::Task(_, body) = decl {
+            for line in body.lines.as_slice() {
+                let Line::Call { req } = line;
+                if let Req::UdpSndDat {
+                    cep,
+                    dest,
+                    load,
+                    tmo,
+                } = req
+                {
+                    calls.push((*cep, load.as_slice().len(), *dest, *tmo))?;
+                    sent.extend_from_slice(load.as_slice())?;
+                }
+            }
+        }
+    }
+    Ok((calls, sent))
+}
+
+#[test]
+fn reads_data(rt: HostRuntime) -> Result<(), Fail> {
+    let script = read(rt.alloc(), SCRIPT)?;
+    let (calls, sent) = sendings(rt.alloc(), &script)?;
+    let nowhere = EndPt { addr: 0, port: 0 };
+    let echo = EndPt {
+        addr: 0xc0a800ff,
+        port: 7,
+    };
+    let expected = [
+        (CepId(1), 0, nowhere, Tmo::Nblk),
+        (CepId(2), 4, echo, Tmo::Ms(9)),
+    ];
+    assert_eq!(rt; calls.as_slice(), expected.as_slice());
+    assert_eq!(rt; sent.as_slice(), [0x68, 0x69, 0x0a, 0xff].as_slice());
+    Ok(())
+}
+
+fn task(id: u32, pri: u32) -> TaskDecl {
+    TaskDecl { id, pri, act: true }
+}
+
+fn sem(init: u32, max: u32) -> SemDecl {
+    SemDecl {
+        id: 1,
+        pri: false,
+        init,
+        max,
+    }
+}
+
+#[test]
+fn gives_both_nodes_their_declarations(rt: HostRuntime) -> Result<(), Fail> {
+    let script = read(rt.alloc(), SCRIPT)?;
+    let conf = conf_of(rt.alloc(), &script)?;
+    let first = &conf.nodes[0];
+    let second = &conf.nodes[1];
+    assert_eq!(rt; first.addr, 0x0a000001);
+    assert_eq!(rt; first.tasks.as_slice(), [task(1, 1), task(2, 2)].as_slice());
+    assert_eq!(rt; first.sems.as_slice(), [sem(0, 1)].as_slice());
+    assert_eq!(rt; (second.addr, second.isn0, second.top0), (0x0a000002, 5, 6));
+    assert_eq!(rt; second.tasks.as_slice(), [task(1, 3)].as_slice());
+    assert_eq!(rt; second.sems.as_slice(), [sem(2, 3)].as_slice());
+    Ok(())
+}
+
 fn refusal(alloc: Global, text: &[u8]) -> Option<ReadBad> {
     read(alloc, text).err()
 }
 
 #[test]
 fn names_the_first_wrong_line(rt: HostRuntime) {
-    let table: [(&[u8], usize, Why); 5] = [
+    let table: [(&[u8], usize, Why); 8] = [
         (b"", 1, Why::Missing),
         (b"itron 1\nlink 1 0 0 0\nticks 500000\n", 3, Why::Range),
         (b"itron 1\n# the link\n\nlink 1 0 0 1\n", 4, Why::Form),
@@ -80,6 +168,21 @@ fn names_the_first_wrong_line(rt: HostRuntime) {
             Why::Twice,
         ),
         (b"itron 1\nlink 1 0 0 0", 2, Why::Missing),
+        (
+            b"itron 1\nlink 1 0 0 0\nticks 0\nnode 0 0.0.0.1 0 0\nnode 1 0.0.0.2 0 0\nnode 1 0.0.0.3 0 0\n",
+            6,
+            Why::Form,
+        ),
+        (
+            b"itron 1\nlink 1 0 0 0\nticks 0\nnode 0 0.0.0.1 0 0\nnode 1 0.0.0.2 0 0\ntask 1 1 act\n",
+            7,
+            Why::Missing,
+        ),
+        (
+            b"itron 1\nlink 1 0 0 0\nticks 0\nnode 0 0.0.0.1 0 0\nnode 1 0.0.0.2 0 0\ntask 1 1 act\nend\ntask 1 2 act\n",
+            8,
+            Why::Twice,
+        ),
     ];
     for (text, line, why) in table {
         assert_eq!(rt;
@@ -109,6 +212,27 @@ fn names_the_cause_of_a_wrong_call(rt: HostRuntime) -> Result<(), Fail> {
         ("dly_tsk -1", Why::Form),
         ("dly_tsk 1 ", Why::Form),
         ("dly_tsk fevr", Why::Form),
+        ("udp_cre_cep 1 65536 0", Why::Range),
+        ("udp_cre_cep 4294967296 1 0", Why::Range),
+        ("udp_cre_cep 1 1 4294967296", Why::Range),
+        ("udp_cre_cep 1 07 0", Why::Form),
+        ("udp_cre_cep 1 7", Why::Form),
+        ("udp_rcv_dat 1 4294967296 pol", Why::Range),
+        ("udp_rcv_dat 1 5 0", Why::Range),
+        ("udp_rcv_dat 1 5 nblk ", Why::Form),
+        ("udp_snd_dat 4294967296 10.0.0.2:7 x00 pol", Why::Range),
+        ("udp_snd_dat 1 10.0.0.256:7 x00 pol", Why::Range),
+        ("udp_snd_dat 1 10.0.0.2:65536 x00 pol", Why::Range),
+        ("udp_snd_dat 1 10.0.0.2:7 x00 1000001", Why::Range),
+        ("udp_snd_dat 1 10.0.2:7 x00 pol", Why::Form),
+        ("udp_snd_dat 1 10.0.0.0.2:7 x00 pol", Why::Form),
+        ("udp_snd_dat 1 10.0.0.2 7 x00 pol", Why::Form),
+        ("udp_snd_dat 1 10.0.0.2:7 xFF pol", Why::Form),
+        ("udp_snd_dat 1 10.0.0.2:7 xfF pol", Why::Form),
+        ("udp_snd_dat 1 10.0.0.2:7 x000 pol", Why::Form),
+        ("udp_snd_dat 1 10.0.0.2:7 x0g pol", Why::Form),
+        ("udp_snd_dat 1 10.0.0.2:7 00 pol", Why::Form),
+        ("udp_snd_dat 1 10.0.0.2:7 x00", Why::Form),
     ];
     for (call, why) in table {
         let text = format!(in rt.alloc();
@@ -119,5 +243,28 @@ fn names_the_cause_of_a_wrong_call(rt: HostRuntime) -> Result<(), Fail> {
             Some(ReadBad::Refused(6, why))
         );
     }
+    Ok(())
+}
+
+/// What is wrong with a call that sends so many bytes, if anything.
+fn refused_data(alloc: Global, len: usize) -> Result<Option<ReadBad>, NoMemory> {
+    let mut text = Vec::from_slice(
+        alloc,
+        b"itron 1\nlink 1 0 0 0\nticks 0\nnode 0 0.0.0.1 0 0\nnode 1 0.0.0.2 0 0\ntask 1 1 act\nudp_snd_dat 1 0.0.0.1:7 x",
+    )?;
+    for _ in 0..len {
+        text.extend_from_slice(b"a5")?;
+    }
+    text.extend_from_slice(b" fevr\nend\n")?;
+    Ok(refusal(alloc, &text))
+}
+
+#[test]
+fn takes_1024_bytes_and_no_more(rt: HostRuntime) -> Result<(), Fail> {
+    assert_eq!(rt; refused_data(rt.alloc(), 1024)?, None);
+    assert_eq!(rt;
+        refused_data(rt.alloc(), 1025)?,
+        Some(ReadBad::Refused(7, Why::Form))
+    );
     Ok(())
 }

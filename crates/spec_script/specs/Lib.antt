@@ -1,3 +1,4 @@
 pub mod Lines
 pub mod Ranges
 pub mod Text
+pub mod Configuration

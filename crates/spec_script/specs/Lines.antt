@@ -68,7 +68,7 @@ abbrev pub head_lines : Script → List ScriptLine
 head_lines s = Itron ∷ Link (Some (key_of s)) ∷ Ticks (Some s.ticks) ∷ FirstNode (node_line (first_node s)) ∷ []
 
 abbrev pub lines_of : Script → List ScriptLine
-lines_of s = head_lines s ++ (flat_map declaration_lines (first_node s).decls ++ SecondNode (node_line (second_node s)) ∷ [])
+lines_of s = head_lines s ++ (flat_map declaration_lines (first_node s).decls ++ (SecondNode (node_line (second_node s)) ∷ flat_map declaration_lines (second_node s).decls))
 
 -- the printed form of a script
 abbrev pub script_text : Script → List ℕ

@@ -1,6 +1,7 @@
 -- What a script keeps: its ranges, one declaration for each id of a kind, and the lines that can be written today.
 use Rattle.std.specs.Prelude.{◌≡◌, ◌≢◌, ℕ, Bool, true, false, not, ◌&&◌, List, [], ◌∷◌, ◌++◌, length, Option, Some, None, nat_le, nat_lt, ◌==◌}
 use Rattle.std.specs.List.{list_all, list_any}
+use Rattle.it_types.specs.declared.id.EndPt.{EndPt}
 use Rattle.it_types.specs.declared.request.Req.{Req}
 use Rattle.it_types.specs.declared.request.Req.TheVariants as requests
 use Rattle.it_types.specs.declared.timeout.Tmo.{Tmo}
@@ -67,11 +68,34 @@ is_written_timeout timeouts.Fevr = true
 is_written_timeout (timeouts.Ms ticks) = nat_le 1 ticks && nat_le ticks greatest_time
 is_written_timeout _ = false
 
--- a call that can be written, whose ids are below 2^32 and whose times are in their ranges
+-- a time-out of a call of the network part, which can also be nblk
+abbrev pub is_network_timeout : Tmo → Bool
+is_network_timeout timeouts.Nblk = true
+is_network_timeout tmo = is_written_timeout tmo
+
+-- the parts of an address with its port are below 2^32 and 2^16
+abbrev pub is_end_point : EndPt → Bool
+is_end_point e = nat_lt e.addr 4294967296 && nat_lt e.port 65536
+
+-- the greatest number of bytes of data that a call sends
+abbrev pub data_limit : ℕ
+data_limit = 1024
+
+abbrev pub is_byte : ℕ → Bool
+is_byte byte = nat_lt byte 256
+
+-- data that isn't too long
+abbrev pub is_written_data : List ℕ → Bool
+is_written_data load = nat_le (length load) data_limit && list_all is_byte load
+
+-- a call that can be written, whose ids and lengths are below 2^32 and whose ports, times and data are in their ranges
 abbrev pub is_written_call : Req → Bool
 is_written_call (requests.SigSem sem) = nat_lt sem.0 4294967296
 is_written_call (requests.TwaiSem sem tmo) = nat_lt sem.0 4294967296 && is_written_timeout tmo
 is_written_call (requests.DlyTsk ticks) = nat_le ticks greatest_time
+is_written_call (requests.UdpCreCep cep port cbr) = nat_lt cep.0 4294967296 && (nat_lt port 65536 && nat_lt cbr.0 4294967296)
+is_written_call (requests.UdpSndDat cep dest load tmo) = (nat_lt cep.0 4294967296 && is_end_point dest) && (is_written_data load && is_network_timeout tmo)
+is_written_call (requests.UdpRcvDat cep len tmo) = nat_lt cep.0 4294967296 && (nat_lt len 4294967296 && is_network_timeout tmo)
 is_written_call requests.ExtTsk = false
 
 abbrev pub is_written_line : Line → Bool
@@ -88,12 +112,16 @@ abbrev pub are_distinct : List Decl → List Decl → Bool
 are_distinct before [] = true
 are_distinct before (d ∷ ds) = not (is_repeated before d) && are_distinct (before ++ d ∷ []) ds
 
--- a script that keeps all this; no packet is lost, doubled or delayed, and node 1 declares nothing
+-- the declarations of a node: each can be written, and each id of a kind is declared once
+pub record AreGood (decls : List Decl) : Type 0 where
+  pub written : list_all is_written_declaration decls ≡ true
+  pub distinct : are_distinct [] decls ≡ true
+
+-- a script that keeps all this; no packet is lost, doubled or delayed
 pub record IsGood (s : Script) : Type 0 where
   pub ranges : list_all is_in_range (lines_of s) ≡ true
-  pub written : list_all is_written_declaration (first_node s).decls ≡ true
-  pub distinct : are_distinct [] (first_node s).decls ≡ true
+  pub first : AreGood (first_node s).decls
+  pub second : AreGood (second_node s).decls
   pub addresses : (second_node s).addr ≢ (first_node s).addr
-  pub bare_second : (second_node s).decls ≡ []
   pub sure_link : s.link ≡ key_of s ∷ 0 ∷ 0 ∷ 0 ∷ []
   pub two_nodes : length s.nodes ≡ 2

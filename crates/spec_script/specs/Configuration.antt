@@ -1,0 +1,42 @@
+-- What the declarations of a script give the nodes at their opening, which is this project's own.
+use Rattle.std.specs.Prelude.{List, [], ◌∷◌}
+use Rattle.it_types.specs.declared.conf.TaskDecl.{TaskDecl}
+use Rattle.it_types.specs.declared.conf.SemDecl.{SemDecl}
+use Rattle.it_types.specs.declared.node_conf.NodeConf.{NodeConf}
+use Rattle.it_types.specs.declared.node_conf.Conf.{Conf}
+use Rattle.spec_script.specs.declared.script.Script.{Script}
+use Rattle.spec_script.specs.declared.script.NodeDecl.{NodeDecl}
+use Rattle.spec_script.specs.declared.decl.Decl.{Decl}
+use Rattle.spec_script.specs.declared.decl.Decl.TheVariants as declarations
+use Rattle.spec_script.specs.Lines.{first_node, second_node}
+
+-- the tasks, in the order of their declarations
+abbrev pub declared_tasks : List Decl → List TaskDecl
+declared_tasks [] = []
+declared_tasks (declarations.Task task body ∷ ds) = task ∷ declared_tasks ds
+declared_tasks (declarations.Sem sem ∷ ds) = declared_tasks ds
+
+-- the semaphores, in the order of their declarations
+abbrev pub declared_semaphores : List Decl → List SemDecl
+declared_semaphores [] = []
+declared_semaphores (declarations.Task task body ∷ ds) = declared_semaphores ds
+declared_semaphores (declarations.Sem sem ∷ ds) = sem ∷ declared_semaphores ds
+
+-- what a node with these declarations begins with; event flags, data queues, cyclic handlers and callback routines can't be
+-- declared today
+abbrev pub node_conf : NodeDecl → NodeConf
+node_conf n = record {
+  addr = n.addr;
+  isn0 = n.isn0;
+  top0 = n.top0;
+  tasks = declared_tasks n.decls;
+  sems = declared_semaphores n.decls;
+  flags = [];
+  dtqs = [];
+  cycs = [];
+  cbrs = [];
+}
+
+-- what the two nodes begin with
+abbrev pub conf_of : Script → Conf
+conf_of s = record { nodes = node_conf (first_node s) ∷ node_conf (second_node s) ∷ [] }
