@@ -1,0 +1,125 @@
+-- Words for worked histories: scripts, and entries.
+use Rattle.std.proofs.Common.{ℕ, true, false, List, [], ◌∷◌}
+use Rattle.std.specs.Prelude.{ℤ}
+use Rattle.it_types.specs.declared.id.EndPt.{EndPt}
+use Rattle.it_types.specs.declared.context.Ctx.{Ctx}
+use Rattle.it_types.specs.declared.context.Ctx.TheVariants as contexts
+use Rattle.it_types.specs.declared.request.Req.{Req}
+use Rattle.it_types.specs.declared.request.Req.TheVariants as requests
+use Rattle.it_types.specs.declared.timeout.Tmo.{Tmo}
+use Rattle.it_types.specs.declared.timeout.Tmo.TheVariants as timeouts
+use Rattle.it_types.specs.declared.event.Event.{Event}
+use Rattle.it_types.specs.declared.event.Event.TheVariants as events
+use Rattle.it_types.specs.declared.answer.Ans.{Ans}
+use Rattle.it_types.specs.declared.answer.Ans.TheVariants as answers
+use Rattle.it_types.specs.declared.mark.Mark.{Mark}
+use Rattle.it_types.specs.declared.mark.Mark.TheVariants as marks
+use Rattle.it_types.specs.declared.entry.CallEnd.{CallEnd}
+use Rattle.it_types.specs.declared.entry.Entry.{Entry}
+use Rattle.spec_script.specs.declared.script.Script.{Script}
+use Rattle.spec_script.specs.declared.decl.Decl.{Decl}
+use Rattle.spec_script.specs.declared.decl.Decl.TheVariants as declarations
+use Rattle.spec_script.specs.declared.decl.Line.{Line}
+use Rattle.spec_script.specs.declared.decl.Line.TheVariants as body_lines
+
+-- ten ticks, and these declarations of node 0, 10.0.0.1, and node 1, 10.0.0.2
+abbrev pub script_of_both : List Decl → List Decl → Script
+script_of_both first second = record {
+  link = 1 ∷ 0 ∷ 0 ∷ 0 ∷ [];
+  ticks = 10;
+  nodes = record { addr = 0x0a000001; isn0 = 0; top0 = 0; decls = first } ∷ record { addr = 0x0a000002; isn0 = 0; top0 = 0; decls = second } ∷ [];
+}
+
+-- declarations of node 0 alone
+abbrev pub script_of : List Decl → Script
+script_of decls = script_of_both decls []
+
+abbrev pub task : ℕ → ℕ → List Line → Decl
+task id priority lines = declarations.Task (record { id = id; pri = priority; act = true }) (record { lines = lines })
+
+abbrev pub semaphore : ℕ → ℕ → ℕ → Decl
+semaphore id init max = declarations.Sem (record { id = id; pri = false; init = init; max = max })
+
+abbrev pub waits : ℕ → Req
+waits id = requests.TwaiSem (record { 0 = id }) timeouts.Fevr
+
+abbrev pub waits_up_to : ℕ → ℕ → Req
+waits_up_to id ticks = requests.TwaiSem (record { 0 = id }) (timeouts.Ms ticks)
+
+abbrev pub delays : ℕ → Req
+delays ticks = requests.DlyTsk ticks
+
+abbrev pub signals : ℕ → Req
+signals id = requests.SigSem (record { 0 = id })
+
+abbrev pub creates : ℕ → ℕ → Req
+creates cep port = requests.UdpCreCep (record { 0 = cep }) port (record { 0 = 0 })
+
+abbrev pub sends : ℕ → EndPt → List ℕ → Req
+sends cep dest load = requests.UdpSndDat (record { 0 = cep }) dest load timeouts.Fevr
+
+abbrev pub receives : ℕ → ℕ → Tmo → Req
+receives cep len tmo = requests.UdpRcvDat (record { 0 = cep }) len tmo
+
+abbrev pub line : Req → Line
+line request = body_lines.Call request
+
+abbrev pub on_task : ℕ → Ctx
+on_task id = contexts.Task (record { 0 = id })
+
+abbrev pub entry : Event → Ans → List CallEnd → List Mark → Entry
+entry event answer ends marked = record { ev = event; ans = answer; ends = ends; marks = marked; packs = [] }
+
+abbrev pub called_at : ℕ → ℕ → Req → Ans → List CallEnd → List Mark → Entry
+called_at node id request answer ends marked = entry (events.Call (record { 0 = node }) (on_task id) request) answer ends marked
+
+abbrev pub called : ℕ → Req → Ans → List CallEnd → List Mark → Entry
+called id request answer ends marked = called_at 0 id request answer ends marked
+
+-- a call that sends a packet
+abbrev pub sent_at : ℕ → ℕ → Req → Ans → List ℕ → Entry
+sent_at node id request answer packet = record (called_at node id request answer [] []) { packs = packet ∷ [] }
+
+abbrev pub returned_with : ℕ → ℕ → ℤ → List ℕ → Entry
+returned_with node id code bytes = entry (events.Return (record { 0 = node }) (record { 0 = id })) (answers.Now (record { 0 = code }) bytes) [] []
+
+abbrev pub returned : ℕ → ℤ → Entry
+returned id code = returned_with 0 id code []
+
+-- a delivery with the ends of calls, and the marks
+abbrev pub delivered : ℕ → List CallEnd → List Mark → Entry
+delivered number ends marked = entry (events.Deliver (record { 0 = number })) answers.Quiet ends marked
+
+abbrev pub code : ℤ → Ans
+code c = answers.Now (record { 0 = c }) []
+
+abbrev pub pends : ℕ → Ans
+pends number = answers.Pends (record { 0 = number })
+
+abbrev pub code_with : ℤ → List ℕ → Ans
+code_with c bytes = answers.Now (record { 0 = c }) bytes
+
+abbrev pub end_with : ℕ → ℤ → List ℕ → CallEnd
+end_with number c bytes = record { call = record { 0 = number }; code = record { 0 = c }; bytes = bytes }
+
+abbrev pub end : ℕ → ℤ → CallEnd
+end number c = end_with number c []
+
+abbrev pub gone : ℕ → Mark
+gone id = marks.Gone (record { 0 = id })
+
+abbrev pub run_mark : ℕ → Mark
+run_mark id = marks.Run (record { 0 = id })
+
+abbrev pub exits : Req
+exits = requests.ExtTsk
+
+-- a tick with the ends of calls, and the marks
+abbrev pub tick_with : ℕ → List CallEnd → List Mark → Entry
+tick_with node ends marked = entry (events.Tick (record { 0 = node })) answers.Quiet ends marked
+
+abbrev pub tick : ℕ → Entry
+tick node = entry (events.Tick (record { 0 = node })) answers.Quiet [] []
+
+abbrev pub stop : Entry
+stop = entry events.Stop answers.Quiet [] []

@@ -1,0 +1,9 @@
+pub mod Declarable
+pub mod Turns
+pub mod Underway
+pub mod Examples
+pub mod Handoff
+pub mod Overflow
+pub mod Timeout
+pub mod Deadlines
+pub mod Exchange

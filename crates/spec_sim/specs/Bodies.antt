@@ -1,0 +1,34 @@
+-- The calls that the body of a task makes, one after another. It is this project's own.
+use Rattle.std.specs.Prelude.{ℕ, ◌+◌, List, [], ◌∷◌, length, Option, Some, None, nat_lt, ◌==◌, if◌then◌else◌, slice_get, slice_index, slice_set}
+use Rattle.it_types.specs.declared.id.TaskId.{TaskId}
+use Rattle.it_types.specs.declared.request.Req.{Req}
+use Rattle.it_types.specs.declared.request.Req.TheVariants.{ExtTsk}
+use Rattle.spec_script.specs.declared.decl.Decl.{Decl}
+use Rattle.spec_script.specs.declared.decl.Decl.TheVariants as declarations
+use Rattle.spec_script.specs.declared.decl.Line.{Line}
+use Rattle.spec_script.specs.declared.decl.Line.TheVariants as body_lines
+
+-- the body of a task
+abbrev pub body_of : List Decl → TaskId → List Line
+body_of [] task = []
+body_of (declarations.Task declared body ∷ ds) task = if declared.id == task.0 then body.lines else body_of ds task
+body_of (declarations.Sem sem ∷ ds) task = body_of ds task
+
+abbrev pub request_of : Line → Req
+request_of (body_lines.Call request) = request
+
+-- a task's next call: that of its next line, and after the last line it ends
+abbrev pub request_or_exit : Option Line → Req
+request_or_exit (Some line) = request_of line
+request_or_exit None = ExtTsk
+
+abbrev pub next_request : List Decl → TaskId → ℕ → Req
+next_request decls task place = request_or_exit (slice_get (body_of decls task) place)
+
+-- a place, one further in a body that has a line there
+abbrev pub onward : ℕ → ℕ → ℕ
+onward lines place = if nat_lt place lines then place + 1 else place
+
+-- the places of a node's tasks after one of them made its next call
+abbrev pub moved_on : List Decl → TaskId → List ℕ → List ℕ
+moved_on decls task places = slice_set places task.0 (onward (length (body_of decls task)) (slice_index places task.0))

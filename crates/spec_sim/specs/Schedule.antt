@@ -1,0 +1,116 @@
+-- The schedule: which event of a script is next. It is this project's own. No packet is lost, doubled or delayed: each is
+-- delivered once, as soon as it is sent, in the order of sending.
+use Rattle.std.specs.Prelude.{ℕ, ◌+◌, Bool, not, ◌&&◌, ◌||◌, List, length, nat_le, nat_lt, ◌==◌, if◌then◌else◌, slice_index, replicate}
+use Rattle.std.specs.List.{list_any}
+use Rattle.it_types.specs.declared.id.NodeId.{NodeId}
+use Rattle.it_types.specs.declared.id.TaskId.{TaskId}
+use Rattle.it_types.specs.declared.context.Ctx.TheVariants as contexts
+use Rattle.it_types.specs.declared.event.Event.{Event}
+use Rattle.it_types.specs.declared.event.Event.TheVariants as events
+use Rattle.it_types.specs.declared.entry.Entry.{Entry}
+use Rattle.spec_kernel.specs.PlainKernel.{greatest_id}
+use Rattle.spec_kernel.specs.Tasks.{is_active}
+use Rattle.spec_script.specs.declared.decl.Decl.{Decl}
+use Rattle.spec_script.specs.declared.script.Script.{Script}
+use Rattle.spec_script.specs.Lines.{first_node, second_node}
+use Rattle.spec_script.specs.Configuration.{conf_of}
+use Rattle.spec_node.specs.PlainNode.{PlainNode, running_task, holds_answer}
+use Rattle.spec_world.specs.PlainWorld.{Nodes, PlainWorld, step, opened_world}
+use Rattle.spec_world.specs.Sizes.{entry_size}
+use Rattle.spec_sim.specs.Bodies.{next_request, moved_on}
+
+-- what the nodes declare, and how many ticks each has at most
+pub record Plan : Type 0 where
+  pub first : List Decl
+  pub second : List Decl
+  pub ticks : ℕ
+
+-- the world of a script under way
+pub record PlainPlay : Type 0 where
+  pub world : PlainWorld
+  pub first : List ℕ  -- the places of node 0's tasks in their bodies, by task id
+  pub second : List ℕ  -- and those of node 1's
+  pub delivered : ℕ  -- the packets delivered so far
+  pub size : ℕ  -- the bytes of data of the history so far
+
+abbrev pub node_0 : NodeId
+node_0 = record { 0 = 0 }
+
+abbrev pub node_1 : NodeId
+node_1 = record { 0 = 1 }
+
+-- ---- the next event
+
+-- a packet was sent and not delivered yet
+abbrev pub is_outstanding : PlainPlay → Bool
+is_outstanding p = nat_lt p.delivered (length p.world.packets)
+
+abbrev pub runs : PlainNode → Bool
+runs n = not ((running_task n).0 == 0)
+
+-- what a task that runs does: it returns where it holds an answer, else it makes its next call
+abbrev pub task_event : NodeId → PlainNode → List ℕ → List Decl → TaskId → Event
+task_event id n places decls task = if holds_answer n task then events.Return id task else events.Call id (contexts.Task task) (next_request decls task (slice_index places task.0))
+
+abbrev pub is_any_active : PlainNode → Bool
+is_any_active n = list_any is_active n.kernel.tasks
+
+-- every task of both nodes is dormant and no packet is outstanding, or both nodes had all their ticks
+abbrev pub is_over : Plan → PlainPlay → Bool
+is_over plan p =
+    (not (is_any_active p.world.nodes.first) && (not (is_any_active p.world.nodes.second) && not (is_outstanding p)))
+    || (nat_le plan.ticks p.world.nodes.first.kernel.now && nat_le plan.ticks p.world.nodes.second.kernel.now)
+
+-- the node with fewer ticks, node 0 where they are equal
+abbrev pub slower : Nodes → NodeId
+slower nodes = if nat_le nodes.first.kernel.now nodes.second.kernel.now then node_0 else node_1
+
+-- the stop, or a tick
+abbrev pub idle_event : Plan → PlainPlay → Event
+idle_event plan p = if is_over plan p then events.Stop else events.Tick (slower p.world.nodes)
+
+-- the running task of node 0, else that of node 1, else the stop or a tick
+abbrev pub node_event : Plan → PlainPlay → Event
+node_event plan p =
+    if runs p.world.nodes.first then task_event node_0 p.world.nodes.first p.first plan.first (running_task p.world.nodes.first)
+    else if runs p.world.nodes.second then task_event node_1 p.world.nodes.second p.second plan.second (running_task p.world.nodes.second)
+    else idle_event plan p
+
+-- the next packet's delivery where one is outstanding, else what the nodes do
+unfoldable pub next : Plan → PlainPlay → Event
+next plan p = if is_outstanding p then events.Deliver (record { 0 = p.delivered }) else node_event plan p
+
+-- ---- after an event
+
+-- the places of a node's tasks after an event: a call of a task moves its place on
+abbrev pub places_after : NodeId → List Decl → Event → List ℕ → List ℕ
+places_after id decls (events.Call at (contexts.Task task) request) places = if at.0 == id.0 then moved_on decls task places else places
+places_after id decls _ places = places
+
+abbrev pub delivered_after : Event → ℕ → ℕ
+delivered_after (events.Deliver number) delivered = delivered + 1
+delivered_after _ delivered = delivered
+
+unfoldable pub after : Plan → PlainPlay → Event → PlainPlay × Entry
+after plan p event = let stepped = step p.world event in (
+  record {
+    world = stepped.0;
+    first = places_after node_0 plan.first event p.first;
+    second = places_after node_1 plan.second event p.second;
+    delivered = delivered_after event p.delivered;
+    size = p.size + entry_size stepped.1;
+  },
+  stepped.1,
+)
+
+-- ---- the beginning
+
+abbrev pub plan_of : Script → Plan
+plan_of s = record { first = (first_node s).decls; second = (second_node s).decls; ticks = s.ticks }
+
+-- each task is at the first line of its body
+abbrev pub first_places : List ℕ
+first_places = replicate (greatest_id + 1) 0
+
+abbrev pub opening : Script → PlainPlay
+opening s = record { world = opened_world (conf_of s); first = first_places; second = first_places; delivered = 0; size = 0 }

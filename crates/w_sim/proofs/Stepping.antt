@@ -1,0 +1,79 @@
+-- A step of the schedule's next event: nothing refuses it, and what the play shows after it is what the schedule keeps.
+use Rattle.std.proofs.Common.{◌≡◌, ℕ, ◌+◌, ◌<◌, Bool, true, false, List, length, None, refl, sym, ap, ◌∙◌, inl, inr, arith}
+use Rattle.std.proofs.lemmas.Bool.{cases_Bool, ltb-true}
+use Rattle.it_types.specs.declared.id.NodeId.{NodeId}
+use Rattle.it_types.specs.declared.id.TaskId.{TaskId}
+use Rattle.it_types.specs.declared.id.PackNo.{PackNo}
+use Rattle.it_types.specs.declared.event.Event.{Event}
+use Rattle.it_types.specs.declared.event.Event.TheVariants as events
+use Rattle.spec_script.specs.declared.decl.Decl.{Decl}
+use Rattle.spec_node.specs.PlainNode.{PlainNode, running_task, holds_answer}
+use Rattle.spec_world.specs.PlainWorld.{PlainWorld, step, opened_world}
+use Rattle.spec_world.specs.Admitted.{is_admitted}
+use Rattle.spec_world.specs.Sizes.{is_full}
+use Rattle.spec_world.specs.History.{History, is_unsent, refusal, stepped, world_of}
+use Rattle.spec_world.proofs.Events.{step-ev}
+use Rattle.spec_world.proofs.Appending.{after_more}
+use Rattle.spec_world.proofs.Counts.{room_short, within_length}
+use Rattle.spec_sim.specs.Schedule.{Plan, PlainPlay, node_0, node_1, is_outstanding, runs, task_event, is_over, idle_event, node_event, next, after}
+use Rattle.spec_sim.proofs.Turns.{next_of_nodes, next_of_first, next_of_second, next_of_none, next_admitted}
+use Rattle.spec_sim.proofs.Underway.{size_more}
+use Rattle.w_sim.specs.Playing.{Playing, GoesOn, play_of, moved}
+
+-- ---- what the play shows
+
+stepped_world : (h : History) (event : Event) → world_of (stepped h event) ≡ (step (world_of h) event).0
+stepped_world h event = after_more (opened_world h.conf) h.log (step (world_of h) event).1 ∙ ap (λ (v : Event). (step (world_of h) v).0) (step-ev (world_of h) event)
+
+pub moved_play : (plan : Plan) (p : Playing) (event : Event) → play_of (moved plan p event) ≡ (after plan (play_of p) event).0
+unfolding after
+moved_play plan p event = rw (stepped_world p.history event, size_more p.history.log (step (world_of p.history) event).1) refl
+
+-- ---- no refusal
+
+admitted_sent : (w : PlainWorld) (event : Event) → is_admitted w event ≡ true → is_unsent w event ≡ false
+admitted_sent w (events.Deliver number) t = rw t refl
+admitted_sent w _ t = refl
+
+pub not_refused : (h : History) (event : Event) → GoesOn h → is_admitted (world_of h) event ≡ true → refusal h event ≡ None
+not_refused h event on t = rw (on.lives, on.going, on.room, admitted_sent (world_of h) event t, t) refl
+
+pub next_not_refused : (plan : Plan) (p : Playing) (event : Event) → GoesOn p.history → event ≡ next plan (play_of p) → refusal p.history event ≡ None
+next_not_refused plan p event on e = not_refused p.history event on (ap (is_admitted (world_of p.history)) e ∙ next_admitted plan (play_of p))
+
+-- ---- how many deliveries
+
+abbrev is_delivery : Event → Bool
+is_delivery (events.Deliver number) = true
+is_delivery _ = false
+
+turn_no_delivery : (id : NodeId) (n : PlainNode) (places : List ℕ) (decls : List Decl) (task : TaskId) → is_delivery (task_event id n places decls task) ≡ false
+turn_no_delivery id n places decls task = elim (cases_Bool (holds_answer n task)) [ inl t ↦ rw t refl | inr f ↦ rw f refl ]
+
+idle_no_delivery : (plan : Plan) (p : PlainPlay) → is_delivery (idle_event plan p) ≡ false
+idle_no_delivery plan p = elim (cases_Bool (is_over plan p)) [ inl t ↦ rw t refl | inr f ↦ rw f refl ]
+
+node_no_delivery : (plan : Plan) (p : PlainPlay) → is_delivery (node_event plan p) ≡ false
+node_no_delivery plan p = elim (cases_Bool (runs p.world.nodes.first)) [
+  | inl t ↦ ap is_delivery (next_of_first plan p t) ∙ turn_no_delivery node_0 p.world.nodes.first p.first plan.first (running_task p.world.nodes.first)
+  | inr f ↦ elim (cases_Bool (runs p.world.nodes.second)) [
+    | inl t ↦ ap is_delivery (next_of_second plan p f t) ∙ turn_no_delivery node_1 p.world.nodes.second p.second plan.second (running_task p.world.nodes.second)
+    | inr g ↦ ap is_delivery (next_of_none plan p f g) ∙ idle_no_delivery plan p
+  ]
+]
+
+delivers_outstanding : (plan : Plan) (p : PlainPlay) (event : Event) → event ≡ next plan p → is_delivery event ≡ true → is_outstanding p ≡ true
+delivers_outstanding plan p event e t = elim (cases_Bool (is_outstanding p)) [
+  | inl u ↦ u
+  | inr f ↦ absurd (let g : true ≡ false = sym t ∙ ap is_delivery (e ∙ next_of_nodes plan p f) ∙ node_no_delivery plan p in cc)
+]
+
+-- the deliveries with one more are at most the entries of a history
+pub one_more_fits : (plan : Plan) (p : Playing) (event : Event) (number : PackNo)
+    → is_full p.history.log ≡ false
+    → event ≡ next plan (play_of p)
+    → event ≡ events.Deliver number
+    → p.delivered + 1 < 4294967296
+one_more_fits plan p event number room e d =
+    let below : p.delivered < length (world_of p.history).packets = ltb-true _ _ (delivers_outstanding plan (play_of p) event e (ap is_delivery d)) in
+    omega (arith, below, (within_length p.history.conf p.history.log).packets, room_short p.history.log room)

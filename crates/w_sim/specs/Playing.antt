@@ -1,0 +1,36 @@
+-- The world of a script under way, by its history.
+use Rattle.std.specs.Prelude.{◌≡◌, ℕ, false, List, sum_by}
+use Rattle.it_types.specs.declared.event.Event.{Event}
+use Rattle.spec_world.specs.Sizes.{entry_size, is_full}
+use Rattle.spec_world.specs.History.{History, ends_with_stop, stepped, world_of}
+use Rattle.spec_sim.specs.Schedule.{Plan, PlainPlay, node_0, node_1, places_after, delivered_after}
+
+pub record Playing : Type 0 where
+  pub history : History
+  pub first : List ℕ  -- the places of node 0's tasks in their bodies, by task id
+  pub second : List ℕ  -- and those of node 1's
+  pub delivered : ℕ  -- the packets delivered so far
+
+abbrev pub play_of : Playing → PlainPlay
+play_of p = record {
+  world = world_of p.history;
+  first = p.first;
+  second = p.second;
+  delivered = p.delivered;
+  size = sum_by entry_size p.history.log;
+}
+
+-- after an event, with the one entry more that the machine gives
+abbrev pub moved : Plan → Playing → Event → Playing
+moved plan p event = record {
+  history = stepped p.history event;
+  first = places_after node_0 plan.first event p.first;
+  second = places_after node_1 plan.second event p.second;
+  delivered = delivered_after event p.delivered;
+}
+
+-- the history has room for an entry more
+pub record GoesOn (h : History) : Type 0 where
+  pub lives : h.ended ≡ false
+  pub going : ends_with_stop h.log ≡ false
+  pub room : is_full h.log ≡ false
