@@ -1,5 +1,3 @@
-pub mod Turn
-pub mod PastEnds
 pub mod Top
-pub mod Recorded
 pub mod Codes
+pub mod Prints

@@ -1,13 +1,17 @@
 -- What a run of the program reads and writes.
-use Rattle.std.specs.Prelude.{ℕ, ◌<◌, List, [], ◌∷◌, ◌++◌, Option, codes, length, take}
+use Rattle.std.specs.Prelude.{◌≡◌, ℕ, ◌<◌, true, false, List, [], ◌∷◌, ◌++◌, Option, codes, length, take}
 use Rattle.std.specs.Io.KnownBytes.{Appends}
 use Rattle.it_io.specs.Input.{ReadToEnd}
 use Rattle.spec_script.specs.declared.script.Script.{Script}
 use Rattle.spec_script.specs.Lines.{script_text}
 use Rattle.spec_script.specs.Text.{IsReadAs}
 use Rattle.spec_trace.specs.Trace.{trace_text}
-use Rattle.spec_world.specs.Schedule.{serial}
-use Rattle.laws_world.specs.AtRest.{HistoryRests}
+use Rattle.spec_script.specs.Configuration.{conf_of}
+use Rattle.spec_world.specs.PlainWorld.{opened_world}
+use Rattle.spec_world.specs.Sizes.{is_full}
+use Rattle.spec_world.specs.History.{ends_with_stop, IsRun}
+use Rattle.spec_sim.specs.Serial.{serial}
+use Rattle.laws_world.specs.AtRest.{LogRests}
 
 -- the words of the command that runs a script
 abbrev pub sim_words : List (List ℕ)
@@ -28,12 +32,24 @@ pub record ReadScript (left_before left_after : Option (List ℕ)) : Type 0 wher
   pub whole : ReadToEnd left_before left_after bytes
   pub read : IsReadAs bytes script
 
--- and the whole output of that script was written; in neither node a call that is ready waits after any entry of its
--- history, nor one whose deadline is at or before now
+-- and the whole output of that script was written; its history is a run of the machine of two nodes; in neither node a call
+-- that is ready waits after any entry of it, nor one whose deadline is at or before now
 pub record RanScript (left_before left_after written_before written_after : Option (List ℕ)) : Type 0 where
   pub input : ReadScript left_before left_after
   pub wrote : Appends written_before written_after (output_of input.script)
-  pub rests : HistoryRests input.script
+  pub run : IsRun (conf_of input.script) (serial input.script)
+  pub rests : LogRests (opened_world (conf_of input.script)) (serial input.script)
+
+-- and the history ends with the stop
+pub record RanToStop (left_before left_after written_before written_after : Option (List ℕ)) : Type 0 where
+  pub ran : RanScript left_before left_after written_before written_after
+  pub stops : ends_with_stop (serial ran.input.script) ≡ true
+
+-- and the history is full and does not end with the stop
+pub record RanToLimit (left_before left_after written_before written_after : Option (List ℕ)) : Type 0 where
+  pub ran : RanScript left_before left_after written_before written_after
+  pub full : is_full (serial ran.input.script) ≡ true
+  pub goes_on : ends_with_stop (serial ran.input.script) ≡ false
 
 -- these bytes were written from the first on, and not all of them
 pub record WrotePart (before after : Option (List ℕ)) (bytes : List ℕ) : Type 0 where

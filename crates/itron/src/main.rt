@@ -1,19 +1,10 @@
 //! Runs scripts of tasks for two nodes and writes the whole history.
 #![tactic(auto)]
 
-mod body;
-mod conf;
-mod held;
-mod node;
-mod outcome;
 mod output;
-mod places;
-mod play;
-mod side;
 mod status;
 #[cfg(test)]
 mod tests;
-mod timing;
 mod top;
 mod words;
 
@@ -70,6 +61,7 @@ fn tell(rt: &HostRuntime, status: Status) -> io::Result<()> {
         Status::Script(line, why) => eprintln!(rt; "line {}: {}", line, cause_word(why)),
         Status::ReadFault => eprintln!(rt; "read fault"),
         Status::WriteFault => eprintln!(rt; "write fault"),
+        Status::TooLong => eprintln!(rt; "history too long"),
         Status::NoMemory => eprintln!(rt; "out of memory"),
         Status::TooBig => eprintln!(rt; "input too big"),
     }

@@ -16,6 +16,8 @@ pub enum Status {
     ReadFault,
     /// The output could not be written.
     WriteFault,
+    /// The whole output was written, and its history is full without the stop.
+    TooLong,
     /// Memory was refused.
     NoMemory,
     /// The input is longer than 1,048,576 bytes.
@@ -33,6 +35,7 @@ impl Status {
             Status::Script(_, _) => 3,
             Status::ReadFault => 4,
             Status::WriteFault => 5,
+            Status::TooLong => 6,
             Status::NoMemory => 7,
             Status::TooBig => 10,
         }

@@ -27,6 +27,12 @@ const DELAYS: &[u8] =
 const DELAYS_HISTORY: &[u8] =
     b"trace\n0 task 2 dly_tsk 0 = pend 1\n run 1\n0 task 1 dly_tsk 0 = pend 2\n run 0\n0 tick\n end 1 0\n end 2 0\n run 2\n0 return 2 = 0\n0 task 2 ext_tsk\n gone 2\n run 1\n0 return 1 = 0\n0 task 1 ext_tsk\n gone 1\n run 0\nstop\n";
 
+const EXCHANGE: &[u8] =
+    b"itron 1\nlink 1 0 0 0\nticks 10\nnode 0 10.0.0.1 0 0\ntask 1 1 act\nudp_cre_cep 1 1000 0\ndly_tsk 1\nudp_snd_dat 1 10.0.0.2:2000 x6869 fevr\nend\nnode 1 10.0.0.2 0 0\ntask 1 1 act\nudp_cre_cep 1 2000 0\nudp_rcv_dat 1 1 fevr\nudp_rcv_dat 1 1 pol\nend\n";
+
+const EXCHANGE_HISTORY: &[u8] =
+    b"trace\n0 task 1 udp_cre_cep 1 1000 0 = 0\n0 task 1 dly_tsk 1 = pend 1\n run 0\n1 task 1 udp_cre_cep 1 2000 0 = 0\n1 task 1 udp_rcv_dat 1 1 fevr = pend 1\n run 0\n0 tick\n1 tick\n0 tick\n end 1 0\n run 1\n0 return 1 = 0\n0 task 1 udp_snd_dat 1 10.0.0.2:2000 x6869 fevr = 2\n pack x4500001e00004000401126cd0a0000010a00000203e807d0000a77b66869\ndeliver 0\n end 1 -58 x0a00000103e868\n run 1\n0 task 1 ext_tsk\n gone 1\n run 0\n1 return 1 = -58 x0a00000103e868\n1 task 1 udp_rcv_dat 1 1 pol = -50\n1 task 1 ext_tsk\n gone 1\n run 0\nstop\n";
+
 /// Runs the words on the input, with a sink that takes `piece` bytes a call and fails at the call `fails`, 0 for none.
 /// Gives the status and what was written.
 fn run_words(
@@ -85,6 +91,15 @@ fn a_call_of_5_ticks_times_out_at_tick_6(rt: HostRuntime) -> Result<(), Fail> {
 fn delays_of_0_ticks_end_at_the_next_tick(rt: HostRuntime) -> Result<(), Fail> {
     let (status, out) = run_words(rt.alloc(), &["sim"], DELAYS, 1000, 0)?;
     let text = whole(rt.alloc(), DELAYS, DELAYS_HISTORY)?;
+    assert_eq!(rt; status, Status::Ok);
+    assert_eq!(rt; out.written(), text.as_slice());
+    Ok(())
+}
+
+#[test]
+fn a_datagram_ends_a_receive_that_waits(rt: HostRuntime) -> Result<(), Fail> {
+    let (status, out) = run_words(rt.alloc(), &["sim"], EXCHANGE, 1000, 0)?;
+    let text = whole(rt.alloc(), EXCHANGE, EXCHANGE_HISTORY)?;
     assert_eq!(rt; status, Status::Ok);
     assert_eq!(rt; out.written(), text.as_slice());
     Ok(())

@@ -1,14 +1,29 @@
-use Rattle.std.proofs.Common.{List, ℕ, subst, ◌∙◌}
+use Rattle.std.proofs.Common.{List, ℕ, subst, sym, ◌∙◌}
 use Rattle.std.specs.Io.KnownBytes.{Appends}
 use Rattle.itron.specs.Top.{WrotePart}
 use Rattle.itron.proofs.top.answer.Goals as goal
 
 pub returns-in-Ok-clause-ok : goal.returns-in-Ok-clause-ok
-returns-in-Ok-clause-ok g c = λ ok.
-    let text = c.in-Ok.ensures.ok in
-    (text.0, text.1, subst (λ (t : List ℕ). Appends (g.K.Sink.written c.args.out.now) (g.K.Sink.written c.write_text.new.out) t) (c.deref.ensures.value ∙ text.2) (c.write_text.ensures.ok ok))
+returns-in-Ok-clause-ok g c = λ e.
+    let printed = c.in-Ok.ensures.ok in
+    let wrote = c.write_output.ensures.ok e in (
+      printed.0,
+      printed.1,
+      subst (λ (t : List ℕ). Appends (g.K.Sink.written c.args.out.now) (g.K.Sink.written c.write_output.new.out) t) printed.2.text wrote.0,
+      sym printed.2.stops ∙ wrote.1,
+    )
+
+pub returns-in-Ok-clause-too_long : goal.returns-in-Ok-clause-too_long
+returns-in-Ok-clause-too_long g c = λ e.
+    let printed = c.in-Ok.ensures.ok in
+    let wrote = c.write_output.ensures.too_long e in (
+      printed.0,
+      printed.1,
+      subst (λ (t : List ℕ). Appends (g.K.Sink.written c.args.out.now) (g.K.Sink.written c.write_output.new.out) t) printed.2.text wrote.0,
+      sym printed.2.stops ∙ wrote.1,
+    )
 
 pub returns-in-Ok-clause-part : goal.returns-in-Ok-clause-part
 returns-in-Ok-clause-part g c = λ e.
-    let text = c.in-Ok.ensures.ok in
-    (text.0, text.1, subst (λ (t : List ℕ). WrotePart (g.K.Sink.written c.args.out.now) (g.K.Sink.written c.write_text.new.out) t) (c.deref.ensures.value ∙ text.2) (c.write_text.ensures.part e))
+    let printed = c.in-Ok.ensures.ok in
+    (printed.0, printed.1, subst (λ (t : List ℕ). WrotePart (g.K.Sink.written c.args.out.now) (g.K.Sink.written c.write_output.new.out) t) printed.2.text (c.write_output.ensures.part e))

@@ -1,15 +1,22 @@
 use Rattle.std.proofs.Common.{List, ℕ, sym, subst}
 use Rattle.spec_script.specs.Text.{IsReadAs}
-use Rattle.laws_world.proofs.Rest.{history_rests}
+use Rattle.itron.proofs.Ran.{ran, full_without_stop}
 use Rattle.itron.proofs.Statuses.{script_is}
 use Rattle.itron.proofs.top.run.Goals as goal
 
 pub returns-in-Ok-clause-ok : goal.returns-in-Ok-clause-ok
-returns-in-Ok-clause-ok g c = λ ok.
-    let done = c.answer.ensures.ok ok in record {
-      input = record { bytes = c.in-Ok.input.items; script = done.0; whole = c.in-Ok.ensures.ok; read = subst (λ (t : List ℕ). IsReadAs t done.0) c.deref.ensures.value done.1 };
-      wrote = done.2;
-      rests = history_rests done.0;
+returns-in-Ok-clause-ok g c = λ e.
+    let done = c.answer.ensures.ok e in record {
+      ran = ran _ _ _ _ c.in-Ok.input.items done.0 c.in-Ok.ensures.ok (subst (λ (t : List ℕ). IsReadAs t done.0) c.deref.ensures.value done.1) done.2;
+      stops = done.3;
+    }
+
+pub returns-in-Ok-clause-too_long : goal.returns-in-Ok-clause-too_long
+returns-in-Ok-clause-too_long g c = λ e.
+    let done = c.answer.ensures.too_long e in record {
+      ran = ran _ _ _ _ c.in-Ok.input.items done.0 c.in-Ok.ensures.ok (subst (λ (t : List ℕ). IsReadAs t done.0) c.deref.ensures.value done.1) done.2;
+      full = full_without_stop done.0 done.3;
+      goes_on = done.3;
     }
 
 pub returns-in-Ok-clause-script : goal.returns-in-Ok-clause-script

@@ -1,6 +1,0 @@
-use Rattle.std.proofs.Common.{◌≡◌, ◌++◌, drop}
-use Rattle.spec_world.specs.Declarations.{declared_semaphores}
-use Rattle.itron.proofs.conf.declared_semaphores.Given as goal
-
-abbrev pub invariant-loop-decl : goal.invariant-loop-decl
-invariant-loop-decl l = l.list ++ declared_semaphores (drop l.decl-index l.decls) ≡ declared_semaphores l.decls
