@@ -74,13 +74,16 @@ no_script() {
     expect "no script: $name" 3 "$work/empty" 'line 0: form
 '
 }
-changed() {
-    sed "$2" examples/handoff.itron >"$work/in"
-    if cmp -s "$work/in" examples/handoff.itron; then
-        echo "FAILED $1: the change changes nothing"
+changed_in() {
+    sed "$3" "$1" >"$work/in"
+    if cmp -s "$work/in" "$1"; then
+        echo "FAILED $2: the change changes nothing"
         failed=$((failed + 1))
     fi
-    no_script "$1"
+    no_script "$2"
+}
+changed() {
+    changed_in examples/handoff.itron "$@"
 }
 cp "$work/empty" "$work/in" && no_script 'nothing at all'
 printf 'itron 1' >"$work/in" && no_script 'one line without LF'
@@ -136,8 +139,38 @@ changed 'an end that is written' '7s/.*/ext_tsk/'
 changed 'a body that does not end' '8d'
 changed 'a body that ends twice' '8p'
 changed 'a call outside a body' '5s/.*/sig_sem 1/'
-changed 'a declaration of node 1' '12s/$/\nsem 1 fifo 0 1/'
+changed 'a body of node 1 that does not end' '12s/$/\ntask 1 1 act/'
+changed 'a call after node 1' '12s/$/\nsig_sem 1/'
 changed 'a node 2' '12s/node 1/node 2/'
+changed 'a node 2 after node 1' '12s/$/\nnode 2 10.0.0.3 0 0/'
+
+# The UDP calls, and declarations of node 1: lines 8, 10, 15 and 17 of the example are `udp_cre_cep 1 1000 0`,
+# `udp_snd_dat 1 10.0.0.2:2000 x6869 fevr`, `udp_rcv_dat 1 1 fevr` of node 1, and the end of its body.
+sent() {
+    changed_in examples/exchange.itron "$@"
+}
+sent 'an end point of 2^32' '8s/cep 1/cep 4294967296/'
+sent 'a port of 65,536' '8s/1000/65536/'
+sent 'a port with a leading zero' '8s/1000/01000/'
+sent 'a callback routine of 2^32' '8s/0$/4294967296/'
+sent 'an end point without a callback routine' '8s/ 0$//'
+sent 'a destination without a port' '10s/:2000//'
+sent 'a destination port of 65,536' '10s/2000/65536/'
+sent 'a destination of three parts' '10s/10.0.0.2/10.0.2/'
+sent 'a part of a destination above 255' '10s/10.0.0.2/10.0.0.256/'
+sent 'data without x' '10s/x6869/6869/'
+sent 'data of an odd number of digits' '10s/x6869/x686/'
+sent 'data in capitals' '10s/x6869/x6A69/'
+sent 'data that is no hexadecimal' '10s/x6869/x686g/'
+sent 'a send without a time-out' '10s/ fevr$//'
+sent 'a send with a time-out of 0' '10s/fevr$/0/'
+sent 'a receive without a length' '15s/1 1 fevr/1 fevr/'
+sent 'a length of 2^32' '15s/1 1 fevr/1 4294967296 fevr/'
+sent 'a receive with a time-out of 1,000,001' '15s/fevr/1000001/'
+sent 'a task of node 1 declared twice' '17s/$/\ntask 1 1 act\nend/'
+sent 'a body of node 1 without its end' '17d'
+long=$(printf '%02050d' 0)
+sed "10s/x6869/x$long/" examples/exchange.itron >"$work/in" && no_script 'data of 1,025 bytes'
 
 # A body has at most 1,000 lines.
 body() {
@@ -205,6 +238,20 @@ run sim
     echo stop
 } >"$work/want"
 expect 'all ticks' 0 "$work/want" ''
+
+# The longest data that a line can have.
+long=$(printf '%02048d' 0)
+sed "10s/x6869/x$long/" examples/exchange.itron >"$work/in"
+run sim
+{
+    grep -v '^#' "$work/in"
+    sed '1,/^node 1/d; /^trace$/,$!d' examples/exchange.txt |
+        sed "s/x6869 fevr = 2/x$long fevr = 1024/; s/x0a00000103e868/x0a00000103e800/; s/^ pack x.*/$(grep '^ pack' "$work/out")/"
+} >"$work/want"
+expect 'data of 1,024 bytes' 0 "$work/want" ''
+
+tests/wire.sh || failed=$((failed + 1))
+tests/wrong_scripts.sh || failed=$((failed + 1))
 
 echo "programs: $passed passed, $failed failed"
 [ "$failed" -eq 0 ]
