@@ -1,28 +1,11 @@
-ghost use Rattle.std.specs.Prelude.{◌≡◌, true, IfOk, OnOk};
+ghost use Rattle.std.specs.Prelude.{◌≡◌, true, OnOk};
 ghost use Rattle.it_types.specs.Configuration.{first_conf, kernel_conf, second_conf};
 ghost use Rattle.spec_kernel.specs.Opening.{IsDeclarable};
 ghost use Rattle.spec_world.specs.Sizes.{is_full};
 
-use it_types::{Conf, Event, List, NodeConf, NodeId};
+use it_types::{Conf, Event, NodeConf, NodeId};
 use std::alloc::Global;
 use w_world::{WErr, World};
-
-/// A node with this address and without objects.
-fn bare_node(alloc: Global, addr: u32) -> NodeConf
-    ensures { IsDeclarable (kernel_conf result) }
-{
-    NodeConf {
-        addr,
-        isn0: 0,
-        top0: 0,
-        tasks: List::new(alloc),
-        sems: List::new(alloc),
-        flags: List::new(alloc),
-        dtqs: List::new(alloc),
-        cycs: List::new(alloc),
-        cbrs: List::new(alloc),
-    }
-}
 
 /// The nodes 10.0.0.1 and 10.0.0.2, without objects.
 pub fn bare_nodes(alloc: Global) -> Conf
@@ -30,7 +13,10 @@ pub fn bare_nodes(alloc: Global) -> Conf
     ensures second { IsDeclarable (kernel_conf (second_conf result)) }
 {
     Conf {
-        nodes: [bare_node(alloc, 0x0a000001), bare_node(alloc, 0x0a000002)],
+        nodes: [
+            NodeConf::new(alloc, 0x0a000001),
+            NodeConf::new(alloc, 0x0a000002),
+        ],
     }
 }
 

@@ -2,7 +2,7 @@
 use Rattle.std.proofs.Common.{◌≡◌, refl, ap, sym, inl, inr}
 use Rattle.std.proofs.lemmas.Bool.{cases_eq, eq-eqb, ne_eqb}
 use Rattle.it_types.specs.declared.id.TaskId.{TaskId}
-use Rattle.spec_net.specs.Callers.{caller}
+use Rattle.it_types.specs.Callers.{caller}
 use Rattle.e_udp.specs.Contexts.{context_of}
 
 pub caller_is : (by : TaskId) → caller (context_of by) ≡ by

@@ -16,7 +16,7 @@ use Rattle.spec_net.proofs.Settling.{net_settled_none}
 use Rattle.spec_net.proofs.ArrivalCases.{delivered_at, delivered_nowhere, ends_one}
 use Rattle.e_udp.specs.Deliveries.{wanted, with_datagram}
 use Rattle.e_udp.proofs.Keeping.{given_rests}
-use Rattle.e_udp.proofs.Places.{place_found, no_place}
+use Rattle.spec_lists.proofs.Places.{place_found, no_place}
 
 point_there : (port : ℕ) (o : Option UdpPoint) → has_port port o ≡ true → (p : UdpPoint) × (o ≡ Some p)
 point_there port None e = cc

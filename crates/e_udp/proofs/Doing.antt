@@ -14,6 +14,7 @@ use Rattle.it_types.specs.declared.id.TaskId.{TaskId}
 use Rattle.it_types.specs.declared.timeout.Tmo.{Tmo}
 use Rattle.it_types.specs.declared.network_request.NReq.{NReq}
 use Rattle.it_types.specs.declared.network_request.NReq.TheVariants.{UdpCreCep, UdpRcvDat}
+use Rattle.it_types.specs.Callers.{caller, is_poll}
 use Rattle.spec_lists.specs.Refusal.{first_refusal}
 use Rattle.spec_lists.specs.Tables.{get, change}
 use Rattle.spec_net.specs.declared.outcome.NetAnswer.TheVariants.{Now, Pends, Quiet}
@@ -23,7 +24,6 @@ use Rattle.spec_net.specs.declared.point.UdpPoint.{UdpPoint}
 use Rattle.spec_net.specs.declared.pending.NetCall.{NetCall}
 use Rattle.spec_net.specs.declared.pending.PendingRequest.TheVariants.{UdpReceive}
 use Rattle.spec_net.specs.PlainNet.{PlainNet, NetOutcome}
-use Rattle.spec_net.specs.Callers.{caller, is_poll}
 use Rattle.spec_net.specs.Packets.{sent_packet}
 use Rattle.spec_net.specs.Receiving.{count_code, queue_of, receive_bytes, receive_code, rest_of, without_oldest}
 use Rattle.spec_net.specs.NetSettle.{NetAtRest, first_ready}
@@ -37,21 +37,12 @@ use Rattle.e_udp.specs.Deliveries.{with_datagram}
 use Rattle.e_udp.specs.Does.{Does}
 use Rattle.e_udp.proofs.Calling.{caller_is}
 use Rattle.e_udp.proofs.Keeping.{taken_nowhere}
-use Rattle.e_udp.proofs.Places.{place_found, no_place}
+use Rattle.spec_lists.proofs.Outcomes.{by_outcome}
+use Rattle.spec_lists.proofs.Places.{place_found, no_place}
 
 -- what is done by an outcome is done by one that is equal to it
 pub does_same : {after : PlainNet} {out : Out} {o p : NetOutcome} → p ≡ o → Does after out o → Does after out p
 does_same {after} {out} e does = subst (λ r. Does after out r) (sym e) does
-
--- the state that the code left is that of the outcome
-pub does_by : (f : PlainNet → NetOutcome) (before named after : PlainNet) (out : Out) (o : NetOutcome)
-    → before ≡ named
-    → f before ≡ o
-    → after ≡ o.net
-    → Does o.net out o
-    → Does after out (f named)
-does_by f before named after out o same outcome net does =
-    subst (λ n. Does after out (f n)) same (does_same outcome (subst (λ n. Does n out o) (sym net) does))
 
 -- a state is at rest as its fields are
 pub rests : {before named : PlainNet} → before ≡ named → NetAtRest before → NetAtRest named
@@ -100,7 +91,7 @@ module _ {addr : ℕ} {udp : List (Option UdpPoint)} {calls : List NetCall} {nam
       → Does o.net out o
       → Does after out (net_call named ctx request number)
   row_does {after} {out} ctx request number o rest allowed outcome net does =
-      does_by (λ n. net_call n ctx request number) before named after out o same
+      by_outcome Does (λ (o : NetOutcome). o.net) (λ n. net_call n ctx request number) before named after out o same
       (net_call_carried_out before ctx request number rest (ap (λ n. first_refusal (refusals n ctx request)) same ∙ allowed) ∙ outcome) net does
 
   -- an end point is made
@@ -200,7 +191,7 @@ module _ {addr : ℕ} {udp : List (Option UdpPoint)} {calls : List NetCall} {nam
       → ((n : PlainNet) → Does n out (record { net = n; answer = Quiet; ends = end ∷ []; packets = [] }))
       → Does (record { addr = addr; udp = udp; calls = calls_after }) out (ended named number code)
   ending_does {calls_after} {out} number code i x end rest at is e same_end tells =
-      does_by (λ n. ended n number code) before named _ out (record (quiet left) { ends = end_with code x ∷ [] }) same
+      by_outcome Does (λ (o : NetOutcome). o.net) (λ n. ended n number code) before named _ out (record (quiet left) { ends = end_with code x ∷ [] }) same
       (ended_row before number code rest ∙ ap (ended_at before code) ((place_found (has_number number) calls i at).first x is))
       (ap (λ w. record { addr = addr; udp = udp; calls = w }) e)
       (subst (λ (k : NetEnd). Does left out (record { net = left; answer = Quiet; ends = k ∷ []; packets = [] })) same_end (tells left))

@@ -12,6 +12,7 @@ use Rattle.it_types.specs.declared.id.TaskId.{TaskId}
 use Rattle.it_types.specs.declared.timeout.Tmo.{Tmo}
 use Rattle.it_types.specs.declared.network_request.NReq.{NReq}
 use Rattle.it_types.specs.declared.network_request.NReq.TheVariants.{UdpCreCep, UdpRcvDat}
+use Rattle.it_types.specs.Callers.{caller, is_poll}
 use Rattle.spec_lists.specs.Tables.{get, change}
 use Rattle.spec_lists.specs.First.{take_first}
 use Rattle.spec_lists.specs.Refusal.{first_refusal}
@@ -21,7 +22,6 @@ use Rattle.spec_net.specs.declared.point.UdpPoint.{UdpPoint}
 use Rattle.spec_net.specs.declared.pending.NetCall.{NetCall}
 use Rattle.spec_net.specs.declared.pending.PendingRequest.TheVariants.{UdpReceive}
 use Rattle.spec_net.specs.PlainNet.{PlainNet, NetOutcome, queue_limit}
-use Rattle.spec_net.specs.Callers.{caller, is_poll}
 use Rattle.spec_net.specs.Receiving.{queue_of, rest_of, without_oldest}
 use Rattle.spec_net.specs.NetSettle.{NetAtRest, is_ready}
 use Rattle.spec_net.specs.UdpRows.{carried_out, is_receive_at, received, refusals, with_point}
@@ -34,7 +34,7 @@ use Rattle.e_udp.specs.Deliveries.{IsWithin, with_datagram}
 use Rattle.e_udp.specs.Kept.{Kept}
 use Rattle.e_udp.specs.Order.{IsAbove}
 use Rattle.e_udp.proofs.Calling.{caller_is}
-use Rattle.e_udp.proofs.Places.{none_removed}
+use Rattle.spec_lists.proofs.Places.{none_removed}
 use Rattle.e_udp.proofs.Rising.{All-remove, rise_end, rise_without}
 
 -- what a call that nothing refuses leaves is at rest

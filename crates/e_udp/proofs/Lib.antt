@@ -4,5 +4,4 @@ pub mod Doing
 pub mod FreePorts
 pub mod FromWire
 pub mod Keeping
-pub mod Places
 pub mod Rising

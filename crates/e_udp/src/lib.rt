@@ -2,7 +2,6 @@
 #![tactic(auto)]
 
 mod arriving;
-mod callers;
 mod creating;
 mod ending;
 mod out;

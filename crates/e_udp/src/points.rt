@@ -6,14 +6,8 @@ ghost use Rattle.spec_net.specs.Arrival.{given};
 ghost use Rattle.spec_net.specs.UdpRows.{is_wrong_id};
 
 use crate::Point;
-use it_types::CepId;
+use it_types::{CepId, GREATEST_ID};
 use spec_net::Received;
-
-/// The greatest id of an end point.
-const GREATEST_ID: u32 = 16;
-
-/// The places of the table: one for each id, and place 0, which stays empty.
-pub(crate) const PLACES: usize = 17;
 
 /// The id is none of a UDP end point.
 pub(crate) fn is_wrong_id(id: u32) -> bool

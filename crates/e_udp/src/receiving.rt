@@ -1,16 +1,15 @@
 ghost use Rattle.std.specs.Prelude.{◌≡◌, ◌≤◌, ◌++◌, true, None, IfOk};
 ghost use Rattle.it_types.specs.declared.id.EndPt.{EndPt as AEndPt};
 ghost use Rattle.it_types.specs.declared.network_request.NReq.{NReq};
+ghost use Rattle.it_types.specs.Callers.{is_poll};
 ghost use Rattle.spec_lists.specs.Refusal.{first_refusal};
 ghost use Rattle.spec_wire.specs.Octets.{u16_octets, u32_octets};
-ghost use Rattle.spec_net.specs.Callers.{is_poll};
 ghost use Rattle.spec_net.specs.Receiving.{receive_bytes, receive_code};
 ghost use Rattle.spec_net.specs.UdpRows.{net_call, refusals};
 ghost use Rattle.e_udp.specs.Contexts.{context_of};
 ghost use Rattle.e_udp.specs.Does.{Does};
 ghost use Rattle.e_udp.specs.Order.{IsAbove};
 
-use crate::callers::is_poll;
 use crate::points::take_oldest;
 use crate::{Out, Udps};
 use byteorder::{BigEndian, ByteOrder};
@@ -100,7 +99,7 @@ impl Udps {
                 let bytes = receive_bytes(alloc, len, datagram.from, load)?;
                 Ok(Out::now(alloc, receive_code(len, load), bytes))
             }
-            None if is_poll(tmo) => Ok(Out::code(alloc, E_TMOUT)),
+            None if tmo.is_poll() => Ok(Out::code(alloc, E_TMOUT)),
             None => {
                 self.calls.push(NetCall {
                     call: no,

@@ -1,12 +1,11 @@
 ghost use Rattle.std.specs.Prelude.{◌≡◌, ◌≢◌, true, option_copied};
 ghost use Rattle.it_types.specs.declared.network_request.NReq.{NReq};
+ghost use Rattle.it_types.specs.Callers.{is_poll};
 ghost use Rattle.spec_lists.specs.Refusal.{first_refusal};
 ghost use Rattle.spec_net.specs.NetSettle.{NetAtRest};
 ghost use Rattle.spec_net.specs.UdpRows.{refusals, is_untold};
-ghost use Rattle.spec_net.specs.Callers.{is_poll};
 ghost use Rattle.e_udp.specs.Contexts.{context_of};
 
-use crate::callers::is_nblk;
 use crate::points::{is_wrong_id, point_at};
 use crate::ports::is_taken;
 use crate::waits::is_awaited;
@@ -24,8 +23,8 @@ fn is_untold(point: Option<&Point>, tmo: Tmo) -> bool
     ensures { result ≡ is_untold (option_copied point.entry) tmo }
 {
     match point {
-        Some(point) => is_nblk(tmo) && point.routine().0 == 0,
-        None => is_nblk(tmo),
+        Some(point) => tmo.is_nblk() && point.routine().0 == 0,
+        None => tmo.is_nblk(),
     }
 }
 

@@ -3,8 +3,7 @@ ghost use Rattle.spec_net.specs.PlainNet.{opened_net};
 ghost use Rattle.e_udp.specs.Order.{IsAbove};
 
 use crate::Point;
-use crate::points::PLACES;
-use it_types::{CallNo, NoMemory};
+use it_types::{CallNo, NoMemory, TABLE_PLACES};
 use spec_net::NetCall;
 use std::alloc::Global;
 use std::marker::Model;
@@ -33,7 +32,7 @@ fn empty_table(alloc: Global) -> Result<Vec<Option<Point>>, NoMemory>
     ensures { IfOk result (λ points. points.items ≡ replicate 17 None) }
 {
     let mut points = Vec::new(alloc);
-    for _place in 0..PLACES {
+    for _place in 0..TABLE_PLACES {
         points.push(None)?;
     }
     Ok(points)

@@ -14,17 +14,9 @@ fn node_with_task(alloc: Global, addr: u32) -> Result<NodeConf, NoMemory>
         pri: 1,
         act: true,
     };
-    Ok(NodeConf {
-        addr,
-        isn0: 0,
-        top0: 0,
-        tasks: List::of(alloc, &[task])?,
-        sems: List::new(alloc),
-        flags: List::new(alloc),
-        dtqs: List::new(alloc),
-        cycs: List::new(alloc),
-        cbrs: List::new(alloc),
-    })
+    let mut node = NodeConf::new(alloc, addr);
+    node.tasks = List::of(alloc, &[task])?;
+    Ok(node)
 }
 
 /// The nodes 10.0.0.1 and 10.0.0.2.

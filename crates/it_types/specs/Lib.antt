@@ -1,3 +1,4 @@
 pub mod Spelling
 pub mod Address
 pub mod Configuration
+pub mod Callers

@@ -33,7 +33,9 @@ pub use er::{
 };
 pub use event::Event;
 pub use handler::{FnCode, Handler};
-pub use id::{CallNo, CepId, EndPt, NodeId, ObjId, PackNo, RepId, TaskId};
+pub use id::{
+    CallNo, CepId, EndPt, GREATEST_ID, NodeId, ObjId, PackNo, RepId, TABLE_PLACES, TaskId,
+};
 pub use kernel_request::KReq;
 pub use list::List;
 pub use mark::{Dir, Mark};
@@ -44,6 +46,3 @@ pub use request::Req;
 pub use small::Small;
 pub use spelling::spell_into;
 pub use timeout::Tmo;
-
-#[cfg(test)]
-mod tests;

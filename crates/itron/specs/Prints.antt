@@ -1,4 +1,4 @@
--- What the program makes of a script.
+-- What the program makes of a script, which is this project's own.
 use Rattle.std.specs.Prelude.{◌≡◌}
 use Rattle.spec_script.specs.declared.script.Script.{Script}
 use Rattle.spec_world.specs.History.{ends_with_stop}

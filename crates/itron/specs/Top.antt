@@ -1,4 +1,4 @@
--- What a run of the program reads and writes.
+-- What a run of the program reads and writes, which is this project's own.
 use Rattle.std.specs.Prelude.{◌≡◌, ℕ, ◌<◌, true, false, List, [], ◌∷◌, ◌++◌, Option, codes, length, take}
 use Rattle.std.specs.Io.KnownBytes.{Appends}
 use Rattle.it_io.specs.Input.{ReadToEnd}

@@ -1,6 +1,6 @@
 -- What the code of each row does is what the row says, for the kernel that it began with: `before` are its tables, and
 -- `named` is the kernel that the contract names.
-use Rattle.std.proofs.Common.{◌≡◌, ℕ, ◌<◌, ◌≤◌, ltb, get_or, None, Some, true, false, List, [], ◌∷◌, refl, ap, sym, ◌∙◌, subst}
+use Rattle.std.proofs.Common.{◌≡◌, ℕ, ◌<◌, ◌≤◌, ltb, length, get_or, None, Some, true, false, List, [], ◌∷◌, refl, ap, sym, ◌∙◌, subst}
 use Rattle.std.proofs.lemmas.Bool.{le-ltb}
 use Rattle.std.specs.List.{remove}
 use Rattle.it_types.specs.declared.context.Ctx.{Ctx}
@@ -11,22 +11,23 @@ use Rattle.it_types.specs.declared.id.TaskId.{TaskId}
 use Rattle.it_types.specs.declared.timeout.Tmo.{Tmo}
 use Rattle.it_types.specs.declared.timeout.Tmo.TheVariants as timeouts
 use Rattle.it_types.specs.declared.kernel_request.KReq.TheVariants.{ExtTsk, DlyTsk, SigSem, TwaiSem}
+use Rattle.it_types.specs.Callers.{caller, nobody}
 use Rattle.spec_lists.specs.Tables.{get}
 use Rattle.spec_lists.specs.First.{take_first}
 use Rattle.spec_lists.specs.Refusal.{first_refusal}
+use Rattle.spec_lists.proofs.Outcomes.{by_outcome}
 use Rattle.spec_kernel.specs.declared.outcome.KAns.TheVariants.{Now}
 use Rattle.spec_kernel.specs.declared.wait.Wait.{Wait}
 use Rattle.spec_kernel.specs.declared.wait.WaitFor.TheVariants as targets
-use Rattle.spec_kernel.specs.PlainKernel.{PlainKernel, nobody}
+use Rattle.spec_kernel.specs.PlainKernel.{PlainKernel}
 use Rattle.spec_kernel.specs.Semaphores.{count_of, is_full}
 use Rattle.spec_kernel.specs.Settle.{Outcome, AtRest, end_of, first_ready, woken}
-use Rattle.spec_kernel.specs.Deadlines.{is_next_past, next_past, end_by_time, due}
+use Rattle.spec_kernel.specs.Deadlines.{next_past, end_by_time, due}
 use Rattle.spec_kernel.specs.Outside.{outside_wait_of, unblocked}
 use Rattle.spec_kernel.proofs.Timing.{due_alone, due_none, next_past_none}
 use Rattle.spec_kernel.specs.declared.outcome.KEnd.{KEnd}
 use Rattle.k_core.specs.ByTime.{ended_alone}
-use Rattle.k_core.proofs.Places.{IsFirstAt}
-use Rattle.spec_kernel.specs.Rows.{is_on, caller, refusals, answered, waiting, accepted, exited, call}
+use Rattle.spec_kernel.specs.Rows.{is_on, refusals, answered, waiting, accepted, exited, call}
 use Rattle.spec_kernel.proofs.Allowed.{signal_not_full}
 use Rattle.spec_kernel.proofs.RowCases.{acquired, delay_waits, exit_ends, signal_ends, signal_raises, signalled, wait_accepts, wait_takes}
 use Rattle.k_core.specs.declared.done.Done.{Done}
@@ -35,16 +36,6 @@ use Rattle.k_core.specs.Does.{Does}
 -- what is done by an outcome is done by one that is equal to it
 pub does_same : {after : PlainKernel} {done : Done} {o p : Outcome} → p ≡ o → Does after done o → Does after done p
 does_same {after} {done} e does = subst (λ r. Does after done r) (sym e) does
-
--- the kernel that the code left is that of the outcome
-pub does_by : (f : PlainKernel → Outcome) (before named after : PlainKernel) (done : Done) (o : Outcome)
-    → before ≡ named
-    → f before ≡ o
-    → after ≡ o.kernel
-    → Does o.kernel done o
-    → Does after done (f named)
-does_by f before named after done o same outcome kernel does =
-    subst (λ k. Does after done (f k)) same (does_same outcome (subst (λ k. Does k done o) (sym kernel) does))
 
 -- a kernel is at rest as its tables are
 pub rests : {before named : PlainKernel} → before ≡ named → AtRest before → AtRest named
@@ -58,17 +49,21 @@ pub not_full : {before named : PlainKernel} (ctx : Ctx) (s : ObjId)
     → is_full (get before.semaphores s.0) ≡ false
 not_full {before} ctx s same allowed none = signal_not_full before ctx s (ap (λ k. first_refusal (refusals k ctx (SigSem s))) same ∙ allowed) none
 
--- the next call by time ends alone
+-- the call at the place is the next that ends by time, and the others are left without it
+abbrev pub IsNextAt : PlainKernel → ℕ → Type 0
+IsNextAt k i = (i < length k.waits) × ((w : Wait) → w ≡ get_or k.waits i w → next_past k ≡ Some (w, remove k.waits i))
+
+-- it ends alone
 pub due_does : (before named after : PlainKernel) (e : KEnd) (w : Wait) (i : ℕ)
     → before ≡ named
     → AtRest before
-    → IsFirstAt (is_next_past before.now before.waits) before.waits i
+    → IsNextAt before i
     → w ≡ get_or named.waits i w
     → after ≡ woken named w (remove named.waits i)
     → e ≡ end_by_time w
     → due named ≡ Some (ended_alone after e)
 due_does before named after e w i same rest place at kernel end =
-    let next : next_past named ≡ Some (w, remove named.waits i) = (subst (λ (k : PlainKernel). IsFirstAt (is_next_past k.now k.waits) k.waits i) same place).1 w at in
+    let next : next_past named ≡ Some (w, remove named.waits i) = (subst (λ (k : PlainKernel). IsNextAt k i) same place).1 w at in
     due_alone named (w, remove named.waits i) (rests same rest) next ∙ ap (λ k. Some (ended_alone k (end_by_time w))) (sym kernel) ∙ ap (λ t. Some (ended_alone after t)) (sym end)
 
 -- no call ends by time
@@ -97,7 +92,7 @@ module _ {before named : PlainKernel} (same : before ≡ named) (rest : AtRest b
       → ((k : PlainKernel) → Does k done (answered k E_OK))
       → Does after done (call named ctx (SigSem s) number)
   raise_does {after} {done} ctx s number allowed none kernel tells =
-      does_by (λ k. call k ctx (SigSem s) number) before named after done (answered (signalled before s) E_OK) same
+      by_outcome Does (λ (o : Outcome). o.kernel) (λ k. call k ctx (SigSem s) number) before named after done (answered (signalled before s) E_OK) same
       (signal_raises before ctx s number rest (ap (λ k. first_refusal (refusals k ctx (SigSem s))) same ∙ allowed) none) kernel (tells (signalled before s))
 
   -- a signal that ends a call
@@ -108,7 +103,7 @@ module _ {before named : PlainKernel} (same : before ≡ named) (rest : AtRest b
       → ((k : PlainKernel) → Does k done (record { kernel = k; answer = Now E_OK []; ends = end_of w ∷ []; gone = nobody; begun = nobody }))
       → Does after done (call named ctx (SigSem s) number)
   end_does {after} {done} ctx s number w others allowed first kernel tells =
-      does_by (λ k. call k ctx (SigSem s) number) before named after done _ same
+      by_outcome Does (λ (o : Outcome). o.kernel) (λ k. call k ctx (SigSem s) number) before named after done _ same
       (signal_ends before ctx s number (w, others) rest (ap (λ k. first_refusal (refusals k ctx (SigSem s))) same ∙ allowed) first) kernel (tells (woken before w others))
 
   -- a wait that takes a count
@@ -119,7 +114,7 @@ module _ {before named : PlainKernel} (same : before ≡ named) (rest : AtRest b
       → ((k : PlainKernel) → Does k done (answered k E_OK))
       → Does after done (call named ctx (TwaiSem s tmo) number)
   take_does {after} {done} ctx s tmo number allowed some kernel tells =
-      does_by (λ k. call k ctx (TwaiSem s tmo) number) before named after done (answered (acquired before s) E_OK) same
+      by_outcome Does (λ (o : Outcome). o.kernel) (λ k. call k ctx (TwaiSem s tmo) number) before named after done (answered (acquired before s) E_OK) same
       (wait_takes before ctx s tmo number rest (ap (λ k. first_refusal (refusals k ctx (TwaiSem s tmo))) same ∙ allowed) some) kernel (tells (acquired before s))
 
   -- a wait that is accepted
@@ -145,4 +140,4 @@ module _ {before named : PlainKernel} (same : before ≡ named) (rest : AtRest b
       → Does (exited before (caller ctx)).kernel done (exited before (caller ctx))
       → Does after done (call named ctx ExtTsk number)
   exit_does {after} {done} ctx number allowed kernel tells =
-      does_by (λ k. call k ctx ExtTsk number) before named after done (exited before (caller ctx)) same (exit_ends before ctx number rest (ap (λ k. first_refusal (refusals k ctx ExtTsk)) same ∙ allowed)) kernel tells
+      by_outcome Does (λ (o : Outcome). o.kernel) (λ k. call k ctx ExtTsk number) before named after done (exited before (caller ctx)) same (exit_ends before ctx number rest (ap (λ k. first_refusal (refusals k ctx ExtTsk)) same ∙ allowed)) kernel tells

@@ -19,7 +19,7 @@ use Rattle.spec_kernel.specs.Semaphores.{count_of, is_full, one_less, one_more}
 use Rattle.spec_kernel.proofs.Readiness.{first_raised, none_lowered}
 use Rattle.spec_kernel.proofs.Leaving.{length-without_le, running_leaves}
 use Rattle.k_core.specs.Kept.{Kept}
-use Rattle.k_core.proofs.Places.{none_removed}
+use Rattle.spec_lists.proofs.Places.{none_removed}
 
 there_unless_full : (o : Option Semaphore) → is_full o ≡ false → (m : Semaphore) × (o ≡ Some m)
 there_unless_full None e = cc

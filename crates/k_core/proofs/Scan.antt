@@ -3,7 +3,7 @@ use Rattle.std.proofs.Common.{◌≡◌, ℕ, ◌+◌, ◌<◌, ◌≤◌, Bool,
 use Rattle.std.specs.List.{list_any, remove}
 use Rattle.std.proofs.lemmas.List.{take_all}
 use Rattle.std.proofs.lemmas.List.Folds.{list_any_at}
-use Rattle.std.proofs.lemmas.Bool.{and_parts, ltb-true, lt-ltb, cases_lt, leb-true, le-leb, le-ltb}
+use Rattle.std.proofs.lemmas.Bool.{and_parts, and_right, ltb-true, lt-ltb, cases_lt, leb-true, le-leb, le-ltb}
 use Rattle.spec_lists.specs.First.{take_first}
 use Rattle.spec_lists.proofs.Firsts.{none_any, none_more, none_weaker, found_at}
 use Rattle.spec_kernel.proofs.Least.{is_least, is_below}
@@ -22,16 +22,9 @@ pub record IsLeastAt {X : Type 0} (f : X → Bool) (key : X → ℕ) (xs : List 
   pub lower : take_first (is_below f key m) (take n xs) ≡ None
   pub before : take_first (is_up_to f key m) (take i xs) ≡ None
 
-fails_right : (a b : Bool) → b ≡ false → (a && b) ≡ false
-fails_right true b e = e
-fails_right false b e = refl
-
-true_not_false : (b : Bool) → b ≡ true → b ≡ false → ⊥
-true_not_false b e h = let f : true ≡ false = sym e ∙ h in cc
-
 -- no element's number is below itself
 not_below : {X : Type 0} (f : X → Bool) (key : X → ℕ) (x : X) → is_below f key (key x) x ≡ false
-not_below f key x = fails_right (f x) (ltb (key x) (key x)) (le-ltb (key x) (key x) (omega arith))
+not_below f key x = and_right (f x) (ltb (key x) (key x)) (le-ltb (key x) (key x) (omega arith))
 
 -- the first that passes
 pub least_begins : {X : Type 0} (f : X → Bool) (key : X → ℕ) (xs : List X) (n : ℕ) (x : X)

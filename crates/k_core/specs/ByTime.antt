@@ -1,10 +1,11 @@
 -- Ends by time (µITRON4.0 section 2.1 for time-outs, 4.2 for the delay), as the running kernel finds and tells them.
 use Rattle.std.specs.Prelude.{ℕ, Bool, true, ◌&&◌, [], ◌∷◌, Option, Some, None, nat_lt}
 use Rattle.it_types.specs.declared.id.CallNo.{CallNo}
+use Rattle.it_types.specs.Callers.{nobody}
 use Rattle.spec_kernel.specs.declared.wait.Wait.{Wait}
 use Rattle.spec_kernel.specs.declared.outcome.KAns.TheVariants.{Quiet}
 use Rattle.spec_kernel.specs.declared.outcome.KEnd.{KEnd}
-use Rattle.spec_kernel.specs.PlainKernel.{PlainKernel, nobody}
+use Rattle.spec_kernel.specs.PlainKernel.{PlainKernel}
 use Rattle.spec_kernel.specs.Settle.{Outcome}
 use Rattle.spec_kernel.specs.Deadlines.{is_past}
 

@@ -5,7 +5,6 @@ ghost use Rattle.spec_kernel.specs.Rows.{accepted, waiting};
 ghost use Rattle.k_core.specs.Does.{Does};
 
 use crate::deadlines::deadline_of;
-use crate::refusals::is_poll;
 use crate::waits::take_out;
 use crate::{Done, Kernel};
 use it_types::{CallNo, E_TMOUT, TaskId, Tmo};
@@ -20,7 +19,7 @@ impl Kernel {
         requires counts { self.old.now < 2 ^ 60 }
         ensures { Does self.new result (accepted self.old task target tmo no) }
     {
-        if is_poll(tmo) {
+        if tmo.is_poll() {
             Done::now(E_TMOUT)
         } else {
             self.wait(task, target, tmo, no)

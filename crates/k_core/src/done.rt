@@ -16,7 +16,8 @@ pub struct Done {
 impl Done {
     ghost use Rattle.std.specs.Prelude.{◌≡◌, [], ◌∷◌};
     ghost use Rattle.it_types.specs.declared.er.TheConstants.{E_OK as ok};
-    ghost use Rattle.spec_kernel.specs.PlainKernel.{PlainKernel, nobody};
+    ghost use Rattle.it_types.specs.Callers.{nobody};
+    ghost use Rattle.spec_kernel.specs.PlainKernel.{PlainKernel};
     ghost use Rattle.spec_kernel.specs.Settle.{end_of};
     ghost use Rattle.spec_kernel.specs.Rows.{answered};
     ghost use Rattle.spec_kernel.specs.declared.outcome.KAns.{KAns};

@@ -4,9 +4,9 @@ ghost use Rattle.spec_kernel.specs.PlainKernel.{greatest_id};
 ghost use Rattle.spec_kernel.specs.Opening.{IsDeclarable, are_new_ids, declared_id, opened, semaphore_at_start, semaphore_id, task_at_start, task_id};
 
 use crate::Kernel;
-use crate::tables::{MAX_TASKS, PLACES};
+use crate::tables::MAX_TASKS;
 use arrayvec::ArrayVec;
-use it_types::{CallNo, KConf, NoMemory, SemDecl, TaskDecl, TaskId};
+use it_types::{CallNo, KConf, NoMemory, SemDecl, TABLE_PLACES, TaskDecl, TaskId};
 use spec_kernel::{Semaphore, Task};
 use std::alloc::Global;
 
@@ -16,7 +16,7 @@ fn task_table(alloc: Global, decls: &[TaskDecl]) -> Result<Vec<Option<Task>>, No
     ensures tasks { IfOk result (λ table. table.items ≡ filled task_id task_at_start decls.now (empty_table greatest_id)) }
     ensures places { IfOk result (λ table. length table.items ≡ 17) }
 {
-    let mut table = vec![in alloc; None; PLACES]?;
+    let mut table = vec![in alloc; None; TABLE_PLACES]?;
     for decl in decls {
         table[decl.id as usize] = Some(Task {
             active: decl.act,
@@ -32,7 +32,7 @@ fn semaphore_table(alloc: Global, decls: &[SemDecl]) -> Result<Vec<Option<Semaph
     ensures semaphores { IfOk result (λ table. table.items ≡ filled semaphore_id semaphore_at_start decls.now (empty_table greatest_id)) }
     ensures places { IfOk result (λ table. length table.items ≡ 17) }
 {
-    let mut table = vec![in alloc; None; PLACES]?;
+    let mut table = vec![in alloc; None; TABLE_PLACES]?;
     for decl in decls {
         table[decl.id as usize] = Some(Semaphore {
             count: decl.init,

@@ -3,49 +3,12 @@ ghost use Rattle.it_types.specs.declared.context.Ctx.{Ctx as ACtx};
 ghost use Rattle.it_types.specs.declared.kernel_request.KReq.{KReq};
 ghost use Rattle.spec_lists.specs.Refusal.{first_refusal};
 ghost use Rattle.spec_kernel.specs.Settle.{AtRest};
-ghost use Rattle.spec_kernel.specs.Rows.{is_handler, is_nblk, is_poll, caller, refusals};
+ghost use Rattle.spec_kernel.specs.Rows.{refusals};
 
 use crate::Kernel;
 use crate::tables::{is_full, is_wrong_id, semaphore_at};
 use crate::waits::is_awaited;
-use it_types::{Ctx, E_CTX, E_ID, E_NOEXS, E_PAR, E_QOVR, Er, KReq, ObjId, TaskId, Tmo};
-
-fn is_handler(ctx: Ctx) -> bool
-    ensures { result ≡ is_handler ctx }
-{
-    match ctx {
-        Ctx::Handler => true,
-        Ctx::Task(_) => false,
-    }
-}
-
-/// The task that calls, 0 in a handler.
-pub(crate) fn caller(ctx: Ctx) -> TaskId
-    ensures { result ≡ caller ctx }
-{
-    match ctx {
-        Ctx::Handler => TaskId(0),
-        Ctx::Task(task) => task,
-    }
-}
-
-fn is_nblk(tmo: Tmo) -> bool
-    ensures { result ≡ is_nblk tmo }
-{
-    match tmo {
-        Tmo::Nblk => true,
-        _ => false,
-    }
-}
-
-pub(crate) fn is_poll(tmo: Tmo) -> bool
-    ensures { result ≡ is_poll tmo }
-{
-    match tmo {
-        Tmo::Pol => true,
-        _ => false,
-    }
-}
+use it_types::{Ctx, E_CTX, E_ID, E_NOEXS, E_PAR, E_QOVR, Er, KReq, ObjId, Tmo};
 
 impl Kernel {
     /// The code with which the call is refused, if it is: that of the first test that holds.
@@ -66,7 +29,7 @@ impl Kernel {
         ensures rest { AtRest self.now }
     {
         let _ = &self.waits;
-        if is_handler(ctx) { Some(E_CTX) } else { None }
+        if ctx.is_handler() { Some(E_CTX) } else { None }
     }
 
     fn dly_tsk_refusal(&self, ctx: Ctx) -> Option<Er>
@@ -74,7 +37,7 @@ impl Kernel {
         ensures rest { AtRest self.now }
     {
         let _ = &self.waits;
-        if is_handler(ctx) { Some(E_CTX) } else { None }
+        if ctx.is_handler() { Some(E_CTX) } else { None }
     }
 
     fn sig_sem_refusal(&self, sem: ObjId) -> Option<Er>
@@ -98,13 +61,13 @@ impl Kernel {
         ensures rest { AtRest self.now }
     {
         let semaphore = semaphore_at(&self.semaphores, sem);
-        if is_handler(ctx) {
+        if ctx.is_handler() {
             Some(E_CTX)
         } else if is_wrong_id(sem.0) {
             Some(E_ID)
         } else if semaphore.is_none() {
             Some(E_NOEXS)
-        } else if is_nblk(tmo) {
+        } else if tmo.is_nblk() {
             Some(E_PAR)
         } else {
             None

@@ -8,7 +8,6 @@ ghost use Rattle.spec_kernel.specs.Tasks.{running};
 ghost use Rattle.spec_kernel.specs.Rows.{call, refusals};
 ghost use Rattle.k_core.specs.Does.{Does};
 
-use crate::refusals::caller;
 use crate::tables::{count_of, lower, raise, semaphore_at};
 use crate::waits::first_on;
 use crate::{Done, Kernel};
@@ -46,7 +45,7 @@ impl Kernel {
             lower(&mut self.semaphores, sem);
             Done::now(E_OK)
         } else {
-            self.accept(caller(ctx), WaitFor::Semaphore(sem), tmo, no)
+            self.accept(ctx.caller(), WaitFor::Semaphore(sem), tmo, no)
         }
     }
 }

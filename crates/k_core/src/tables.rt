@@ -4,14 +4,8 @@ ghost use Rattle.spec_kernel.specs.Tasks.{priority_of, is_active, dormant, runni
 ghost use Rattle.spec_kernel.specs.Semaphores.{count_of, is_full, one_more, one_less};
 ghost use Rattle.spec_kernel.specs.Rows.{is_wrong_id};
 
-use it_types::{ObjId, TaskId};
+use it_types::{GREATEST_ID, ObjId, TaskId};
 use spec_kernel::{Semaphore, Task};
-
-/// The greatest id of a task and of a semaphore.
-const GREATEST_ID: u32 = 16;
-
-/// The places of a table: one for each id, and place 0, which stays empty.
-pub(crate) const PLACES: usize = 17;
 
 /// The most tasks that there can be, and so the most that are runnable or wait.
 pub(crate) const MAX_TASKS: usize = 16;

@@ -8,7 +8,6 @@ ghost use Rattle.spec_kernel.specs.Tasks.{running};
 ghost use Rattle.spec_kernel.specs.Rows.{call, refusals};
 ghost use Rattle.k_core.specs.Does.{Does};
 
-use crate::refusals::caller;
 use crate::tables::make_dormant;
 use crate::waits::take_out;
 use crate::{Done, Kernel};
@@ -21,7 +20,7 @@ impl Kernel {
         requires { first_refusal (refusals self.old ctx KReq.ExtTsk) ≡ None }
         ensures { (no : ACallNo) → Does self.new result (call self.old ctx KReq.ExtTsk no) }
     {
-        let task = caller(ctx);
+        let task = ctx.caller();
         make_dormant(&mut self.tasks, task);
         take_out(&mut self.runnable, task);
         Done::exit_of(task)
@@ -35,6 +34,6 @@ impl Kernel {
         ensures { Does self.new result (call self.old ctx (KReq.DlyTsk ticks) no) }
     {
         let _ = &self.waits;
-        self.wait(caller(ctx), WaitFor::Delay, Tmo::Ms(ticks), no)
+        self.wait(ctx.caller(), WaitFor::Delay, Tmo::Ms(ticks), no)
     }
 }

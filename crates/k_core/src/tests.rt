@@ -49,58 +49,77 @@ fn two_tasks(alloc: Global, init: u32) -> Result<KConf, NoMemory>
     })
 }
 
-fn call_by(rt: &impl Abort, kernel: &mut Kernel, task: TaskId, req: &KReq, no: CallNo) -> Done {
+const FIRST: TaskId = TaskId(1);
+
+const SECOND: TaskId = TaskId(2);
+
+const NOBODY: TaskId = TaskId(0);
+
+const SIGNAL: KReq = KReq::SigSem { sem: SEM };
+
+fn wait(tmo: Tmo) -> KReq {
+    KReq::TwaiSem { sem: SEM, tmo }
+}
+
+fn opened(alloc: Global, init: u32) -> Result<Kernel, NoMemory>
+    requires { init ≤ 1 }
+{
+    Kernel::open(alloc, &two_tasks(alloc, init)?)
+}
+
+fn expect_running(rt: &impl Abort, kernel: &Kernel, task: TaskId) {
+    assert_eq!(rt; kernel.running(), task);
+}
+
+// The running task makes a call.
+fn call_by(rt: &impl Abort, kernel: &mut Kernel, task: TaskId, req: &KReq, no: u32) -> Done {
     assert!(rt; task.0 != 0);
     assert_eq!(rt; kernel.running(), task);
     assert!(rt; kernel.now() < 1 << 60);
-    assert!(rt; kernel.last_call.0 < no.0);
-    kernel.call(Ctx::Task(task), req, no)
+    assert!(rt; kernel.last_call.0 < no);
+    kernel.call(Ctx::Task(task), req, CallNo(no))
 }
 
-#[test]
-fn a_signal_wakes_the_waiting_task(rt: HostRuntime) -> Result<(), Fail> {
-    let conf = two_tasks(rt.alloc(), 0)?;
-    let mut kernel = Kernel::open(rt.alloc(), &conf)?;
-    assert!(rt; kernel.is_any_active());
-    let wait = KReq::TwaiSem {
-        sem: SEM,
-        tmo: Tmo::Fevr,
-    };
-    let done = call_by(&rt, &mut kernel, TaskId(1), &wait, CallNo(1));
+fn is_code(done: &Done, code: Er) -> bool {
+    match &done.ans {
+        KAns::Now(answer, _) => *answer == code,
+        _ => false,
+    }
+}
+
+// The call is answered at once with the code.
+fn expect_code(rt: &impl Abort, done: &Done, code: Er) {
+    assert!(rt; is_code(done, code));
+}
+
+fn expect_pends(rt: &impl Abort, done: &Done) {
     assert!(rt; matches!(done.ans, KAns::Pends));
-    let done = call_by(
-        &rt,
-        &mut kernel,
-        TaskId(2),
-        &KReq::SigSem { sem: SEM },
-        CallNo(2),
-    );
-    assert!(rt; matches!(done.ans, KAns::Now(E_OK, _)));
-    assert_eq!(rt; done.ends.len(), 1);
-    let end = &done.ends[0];
-    assert_eq!(rt;
-        (end.call, end.task, end.code),
-        (CallNo(1), TaskId(1), E_OK)
-    );
-    assert_eq!(rt; kernel.running(), TaskId(1));
-    Ok(())
 }
 
-#[test]
-fn a_signal_above_the_maximum_is_refused(rt: HostRuntime) -> Result<(), Fail> {
-    let conf = two_tasks(rt.alloc(), 1)?;
-    let mut kernel = Kernel::open(rt.alloc(), &conf)?;
-    assert_eq!(rt; kernel.tick().len(), 0);
-    assert_eq!(rt; kernel.now(), 1);
-    let done = call_by(
-        &rt,
-        &mut kernel,
-        TaskId(1),
-        &KReq::SigSem { sem: SEM },
-        CallNo(1),
-    );
-    assert!(rt; matches!(done.ans, KAns::Now(E_QOVR, _)));
-    Ok(())
+fn expect_end(rt: &impl Abort, end: Option<&KEnd>, call: u32, task: TaskId, code: Er, out: bool) {
+    assert!(rt; end.is_some());
+    if let Some(end) = end {
+        assert_eq!(rt; (end.call, end.task, end.code), (CallNo(call), task, code));
+        assert_eq!(rt; end.bytes.as_slice().len(), 0);
+        assert_eq!(rt; end.outside, out);
+    }
+}
+
+// The call of this number ends by time.
+fn expect_due(
+    rt: &impl Abort,
+    kernel: &mut Kernel,
+    call: u32,
+    task: TaskId,
+    code: Er,
+    outside: bool,
+) {
+    let end = kernel.due();
+    expect_end(rt, end.as_ref(), call, task, code, outside);
+}
+
+fn expect_none_due(rt: &impl Abort, kernel: &mut Kernel) {
+    assert!(rt; kernel.due().is_none());
 }
 
 // So many ticks.
@@ -111,166 +130,119 @@ fn tick_on(rt: &impl Abort, kernel: &mut Kernel, ticks: u32) {
     }
 }
 
-fn expect_end(
-    rt: &impl Abort,
-    end: Option<&KEnd>,
-    call: CallNo,
-    task: TaskId,
-    code: Er,
-    outside: bool,
-) {
-    assert!(rt; end.is_some());
-    if let Some(end) = end {
-        assert_eq!(rt; (end.call, end.task, end.code), (call, task, code));
-        assert_eq!(rt; end.bytes.as_slice().len(), 0);
-        assert_eq!(rt; end.outside, outside);
-    }
-}
-
-#[test]
-fn a_delay_and_a_time_out_end_at_their_ticks(rt: HostRuntime) -> Result<(), Fail> {
-    let conf = two_tasks(rt.alloc(), 0)?;
-    let mut kernel = Kernel::open(rt.alloc(), &conf)?;
-    let wait = KReq::TwaiSem {
-        sem: SEM,
-        tmo: Tmo::Ms(5),
-    };
-    let done = call_by(&rt, &mut kernel, TaskId(1), &wait, CallNo(1));
-    assert!(rt; matches!(done.ans, KAns::Pends));
-    let delay = KReq::DlyTsk { ms: 2 };
-    let done = call_by(&rt, &mut kernel, TaskId(2), &delay, CallNo(2));
-    assert!(rt; matches!(done.ans, KAns::Pends));
-    assert_eq!(rt; kernel.running(), TaskId(0));
-    tick_on(&rt, &mut kernel, 2);
-    assert!(rt; kernel.due().is_none());
-    tick_on(&rt, &mut kernel, 1);
-    let end = kernel.due();
-    expect_end(&rt, end.as_ref(), CallNo(2), TaskId(2), E_OK, false);
-    assert!(rt; kernel.due().is_none());
-    assert_eq!(rt; kernel.running(), TaskId(2));
-    tick_on(&rt, &mut kernel, 3);
-    let end = kernel.due();
-    expect_end(&rt, end.as_ref(), CallNo(1), TaskId(1), E_TMOUT, false);
-    assert!(rt; kernel.due().is_none());
-    assert_eq!(rt; kernel.running(), TaskId(1));
-    Ok(())
-}
-
-#[test]
-fn of_two_ends_of_a_tick_the_lower_number_is_first(rt: HostRuntime) -> Result<(), Fail> {
-    let conf = two_tasks(rt.alloc(), 0)?;
-    let mut kernel = Kernel::open(rt.alloc(), &conf)?;
-    let delay = KReq::DlyTsk { ms: 0 };
-    call_by(&rt, &mut kernel, TaskId(1), &delay, CallNo(1));
-    call_by(&rt, &mut kernel, TaskId(2), &delay, CallNo(2));
-    tick_on(&rt, &mut kernel, 1);
-    let end = kernel.due();
-    expect_end(&rt, end.as_ref(), CallNo(1), TaskId(1), E_OK, false);
-    let end = kernel.due();
-    expect_end(&rt, end.as_ref(), CallNo(2), TaskId(2), E_OK, false);
-    assert!(rt; kernel.due().is_none());
-    Ok(())
-}
-
-#[test]
-fn a_handler_has_no_delay(rt: HostRuntime) -> Result<(), Fail> {
-    let conf = two_tasks(rt.alloc(), 0)?;
-    let mut kernel = Kernel::open(rt.alloc(), &conf)?;
-    assert!(rt; kernel.last_call.0 < 1);
-    assert!(rt; kernel.now() < 1 << 60);
-    let done = kernel.call(Ctx::Handler, &KReq::DlyTsk { ms: 1 }, CallNo(1));
-    assert!(rt; matches!(done.ans, KAns::Now(E_CTX, _)));
-    assert_eq!(rt; done.ends.len(), 0);
-    Ok(())
-}
-
 // The running task waits for a call of the network part.
-fn block_by(rt: &impl Abort, kernel: &mut Kernel, task: TaskId, tmo: Tmo, no: CallNo)
+fn block_by(rt: &impl Abort, kernel: &mut Kernel, task: TaskId, tmo: Tmo, no: u32)
     requires { may_wait tmo ≡ true }
 {
     assert!(rt; task.0 != 0);
     assert_eq!(rt; kernel.running(), task);
     assert!(rt; kernel.now() < 1 << 60);
-    assert!(rt; kernel.last_call.0 < no.0);
-    kernel.block(task, tmo, no);
+    assert!(rt; kernel.last_call.0 < no);
+    kernel.block(task, tmo, CallNo(no));
+}
+
+fn expect_unblocked(rt: &impl Abort, kernel: &mut Kernel, task: TaskId, was: bool) {
+    assert_eq!(rt; kernel.unblock(task), was);
+}
+
+#[test]
+fn a_signal_wakes_the_waiting_task(rt: HostRuntime) -> Result<(), Fail> {
+    let mut kernel = opened(rt.alloc(), 0)?;
+    assert!(rt; kernel.is_any_active());
+    let done = call_by(&rt, &mut kernel, FIRST, &wait(Tmo::Fevr), 1);
+    expect_pends(&rt, &done);
+    expect_unblocked(&rt, &mut kernel, FIRST, false);
+    let done = call_by(&rt, &mut kernel, SECOND, &SIGNAL, 2);
+    expect_code(&rt, &done, E_OK);
+    assert_eq!(rt; done.ends.len(), 1);
+    expect_end(&rt, done.ends.as_slice().first(), 1, FIRST, E_OK, false);
+    expect_running(&rt, &kernel, FIRST);
+    Ok(())
+}
+
+#[test]
+fn a_signal_above_the_maximum_is_refused(rt: HostRuntime) -> Result<(), Fail> {
+    let mut kernel = opened(rt.alloc(), 1)?;
+    tick_on(&rt, &mut kernel, 1);
+    assert_eq!(rt; kernel.now(), 1);
+    let done = call_by(&rt, &mut kernel, FIRST, &SIGNAL, 1);
+    expect_code(&rt, &done, E_QOVR);
+    Ok(())
+}
+
+#[test]
+fn a_delay_and_a_time_out_end_at_their_ticks(rt: HostRuntime) -> Result<(), Fail> {
+    let mut kernel = opened(rt.alloc(), 0)?;
+    let done = call_by(&rt, &mut kernel, FIRST, &wait(Tmo::Ms(5)), 1);
+    expect_pends(&rt, &done);
+    let done = call_by(&rt, &mut kernel, SECOND, &KReq::DlyTsk { ms: 2 }, 2);
+    expect_pends(&rt, &done);
+    expect_running(&rt, &kernel, NOBODY);
+    tick_on(&rt, &mut kernel, 2);
+    expect_none_due(&rt, &mut kernel);
+    tick_on(&rt, &mut kernel, 1);
+    expect_due(&rt, &mut kernel, 2, SECOND, E_OK, false);
+    expect_none_due(&rt, &mut kernel);
+    expect_running(&rt, &kernel, SECOND);
+    tick_on(&rt, &mut kernel, 3);
+    expect_due(&rt, &mut kernel, 1, FIRST, E_TMOUT, false);
+    expect_none_due(&rt, &mut kernel);
+    expect_running(&rt, &kernel, FIRST);
+    Ok(())
+}
+
+#[test]
+fn of_two_ends_of_a_tick_the_lower_number_is_first(rt: HostRuntime) -> Result<(), Fail> {
+    let mut kernel = opened(rt.alloc(), 0)?;
+    let delay = KReq::DlyTsk { ms: 0 };
+    call_by(&rt, &mut kernel, FIRST, &delay, 1);
+    call_by(&rt, &mut kernel, SECOND, &delay, 2);
+    tick_on(&rt, &mut kernel, 1);
+    expect_due(&rt, &mut kernel, 1, FIRST, E_OK, false);
+    expect_due(&rt, &mut kernel, 2, SECOND, E_OK, false);
+    expect_none_due(&rt, &mut kernel);
+    Ok(())
+}
+
+#[test]
+fn a_handler_has_no_delay(rt: HostRuntime) -> Result<(), Fail> {
+    let mut kernel = opened(rt.alloc(), 0)?;
+    assert!(rt; kernel.last_call.0 < 1);
+    assert!(rt; kernel.now() < 1 << 60);
+    let done = kernel.call(Ctx::Handler, &KReq::DlyTsk { ms: 1 }, CallNo(1));
+    expect_code(&rt, &done, E_CTX);
+    Ok(())
 }
 
 #[test]
 fn a_wait_outside_ends_by_time(rt: HostRuntime) -> Result<(), Fail> {
-    let conf = two_tasks(rt.alloc(), 0)?;
-    let mut kernel = Kernel::open(rt.alloc(), &conf)?;
-    block_by(&rt, &mut kernel, TaskId(1), Tmo::Ms(5), CallNo(1));
-    assert_eq!(rt; kernel.running(), TaskId(2));
+    let mut kernel = opened(rt.alloc(), 0)?;
+    block_by(&rt, &mut kernel, FIRST, Tmo::Ms(5), 1);
+    expect_running(&rt, &kernel, SECOND);
     tick_on(&rt, &mut kernel, 5);
-    assert!(rt; kernel.due().is_none());
-    assert_eq!(rt; kernel.running(), TaskId(2));
+    expect_none_due(&rt, &mut kernel);
+    expect_running(&rt, &kernel, SECOND);
     tick_on(&rt, &mut kernel, 1);
-    let end = kernel.due();
-    expect_end(&rt, end.as_ref(), CallNo(1), TaskId(1), E_TMOUT, true);
-    assert!(rt; kernel.due().is_none());
-    assert_eq!(rt; kernel.running(), TaskId(1));
-    assert!(rt; !kernel.unblock(TaskId(1)));
+    expect_due(&rt, &mut kernel, 1, FIRST, E_TMOUT, true);
+    expect_none_due(&rt, &mut kernel);
+    expect_running(&rt, &kernel, FIRST);
+    expect_unblocked(&rt, &mut kernel, FIRST, false);
     Ok(())
 }
 
 #[test]
-fn a_task_that_is_unblocked_runs_again(rt: HostRuntime) -> Result<(), Fail> {
-    let conf = two_tasks(rt.alloc(), 0)?;
-    let mut kernel = Kernel::open(rt.alloc(), &conf)?;
-    block_by(&rt, &mut kernel, TaskId(1), Tmo::Ms(5), CallNo(1));
-    assert!(rt; !kernel.unblock(TaskId(2)));
-    assert_eq!(rt; kernel.running(), TaskId(2));
-    assert!(rt; kernel.unblock(TaskId(1)));
-    assert_eq!(rt; kernel.running(), TaskId(1));
-    assert!(rt; !kernel.unblock(TaskId(1)));
-    tick_on(&rt, &mut kernel, 6);
-    assert!(rt; kernel.due().is_none());
-    block_by(&rt, &mut kernel, TaskId(1), Tmo::Fevr, CallNo(2));
-    assert_eq!(rt; kernel.running(), TaskId(2));
-    assert!(rt; kernel.unblock(TaskId(1)));
-    assert_eq!(rt; kernel.running(), TaskId(1));
-    Ok(())
-}
-
-#[test]
-fn a_wait_on_a_semaphore_is_none_outside(rt: HostRuntime) -> Result<(), Fail> {
-    let conf = two_tasks(rt.alloc(), 0)?;
-    let mut kernel = Kernel::open(rt.alloc(), &conf)?;
-    let wait = KReq::TwaiSem {
-        sem: SEM,
-        tmo: Tmo::Fevr,
-    };
-    let done = call_by(&rt, &mut kernel, TaskId(1), &wait, CallNo(1));
-    assert!(rt; matches!(done.ans, KAns::Pends));
-    assert!(rt; !kernel.unblock(TaskId(1)));
-    assert_eq!(rt; kernel.running(), TaskId(2));
-    let signal = KReq::SigSem { sem: SEM };
-    let done = call_by(&rt, &mut kernel, TaskId(2), &signal, CallNo(2));
-    assert!(rt; matches!(done.ans, KAns::Now(E_OK, _)));
-    assert_eq!(rt; done.ends.len(), 1);
-    expect_end(
-        &rt,
-        done.ends.as_slice().first(),
-        CallNo(1),
-        TaskId(1),
-        E_OK,
-        false,
-    );
-    assert_eq!(rt; kernel.running(), TaskId(1));
-    Ok(())
-}
-
-#[test]
-fn a_signal_leaves_a_wait_outside(rt: HostRuntime) -> Result<(), Fail> {
-    let conf = two_tasks(rt.alloc(), 0)?;
-    let mut kernel = Kernel::open(rt.alloc(), &conf)?;
-    block_by(&rt, &mut kernel, TaskId(1), Tmo::Fevr, CallNo(1));
-    let signal = KReq::SigSem { sem: SEM };
-    let done = call_by(&rt, &mut kernel, TaskId(2), &signal, CallNo(2));
-    assert!(rt; matches!(done.ans, KAns::Now(E_OK, _)));
+fn a_wait_outside_ends_from_outside(rt: HostRuntime) -> Result<(), Fail> {
+    let mut kernel = opened(rt.alloc(), 0)?;
+    block_by(&rt, &mut kernel, FIRST, Tmo::Ms(5), 1);
+    let done = call_by(&rt, &mut kernel, SECOND, &SIGNAL, 2);
+    expect_code(&rt, &done, E_OK);
     assert_eq!(rt; done.ends.len(), 0);
-    assert_eq!(rt; kernel.running(), TaskId(2));
-    assert!(rt; kernel.unblock(TaskId(1)));
-    assert_eq!(rt; kernel.running(), TaskId(1));
+    expect_unblocked(&rt, &mut kernel, SECOND, false);
+    expect_running(&rt, &kernel, SECOND);
+    expect_unblocked(&rt, &mut kernel, FIRST, true);
+    expect_running(&rt, &kernel, FIRST);
+    expect_unblocked(&rt, &mut kernel, FIRST, false);
+    tick_on(&rt, &mut kernel, 6);
+    expect_none_due(&rt, &mut kernel);
     Ok(())
 }

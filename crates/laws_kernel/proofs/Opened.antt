@@ -1,8 +1,8 @@
 -- At the opening each declared task is runnable, in the order of the declarations, which is that of the ranks.
-use Rattle.std.proofs.Common.{◌≡◌, ◌≢◌, ℕ, ◌+◌, ◌≤◌, Bool, true, false, ◌&&◌, List, [], ◌∷◌, ◌++◌, length, set, Option, Some, None, refl, sym, ◌∙◌, ap, subst, append_assoc, inl, inr, arith}
+use Rattle.std.proofs.Common.{◌≡◌, ◌≢◌, ℕ, ◌+◌, ◌≤◌, true, false, List, [], ◌∷◌, ◌++◌, length, set, Option, Some, None, refl, sym, ◌∙◌, ap, subst, append_assoc, inl, inr, arith}
 use Rattle.std.specs.Prelude.{◌==◌, nat_le, is_none, map}
 use Rattle.std.specs.List.{list_all}
-use Rattle.std.proofs.lemmas.Bool.{cases_eq, cases_lt, eq-eqb, ne_eqb, leb-true}
+use Rattle.std.proofs.lemmas.Bool.{cases_eq, cases_lt, eq-eqb, ne_eqb, leb-true, and_parts}
 use Rattle.std.proofs.lemmas.List.{append-nil, get_or-set_same, get_or-set_other, get_or-replicate, get_or_past, length-set, length-replicate}
 use Rattle.it_types.specs.declared.id.TaskId.{TaskId}
 use Rattle.it_types.specs.declared.conf.TaskDecl.{TaskDecl}
@@ -17,10 +17,6 @@ use Rattle.laws_kernel.specs.Ranks.{Ranks, task_draws, no_ranks, all_draw}
 use Rattle.laws_kernel.proofs.Counting.{listed_end}
 use Rattle.laws_kernel.proofs.Rising.{AllBelow, below_end, below_more, below_agree, rises_end, rises_agree}
 use Rattle.laws_kernel.proofs.Standing.{task_rank, Stands, StandsFor, draws_next, agree_unlisted}
-
-both : (a b : Bool) → (a && b) ≡ true → (a ≡ true) × (b ≡ true)
-both true b e = (refl, e)
-both false b e = absurd cc
 
 none_inactive : (o : Option Task) → is_none o ≡ true → is_active o ≡ false
 none_inactive None e = refl
@@ -91,12 +87,12 @@ all_begun : (ds : List TaskDecl) (tasks : List (Option Task)) (runnable : List T
     → Begun (filled task_id task_at_start ds tasks) (runnable ++ map declared_id ds) (all_draw (map declared_id ds) r)
 all_begun [] tasks runnable r h new good = subst (λ ts. Begun tasks ts r) (sym (append-nil runnable)) h
 all_begun (d ∷ ds) tasks runnable r h new good =
-    let low = both (nat_le 1 d.id) _ new in
-    let high = both (nat_le d.id greatest_id) _ low.1 in
-    let free = both (is_none (get tasks d.id)) _ high.1 in
-    let range = both (is_good_task d) (list_all is_good_task ds) good in
-    let pri = both (nat_le 1 d.pri) _ range.0 in
-    let act = both (nat_le d.pri 16) d.act pri.1 in
+    let low = and_parts (nat_le 1 d.id) _ new in
+    let high = and_parts (nat_le d.id greatest_id) _ low.1 in
+    let free = and_parts (is_none (get tasks d.id)) _ high.1 in
+    let range = and_parts (is_good_task d) (list_all is_good_task ds) good in
+    let pri = and_parts (nat_le 1 d.pri) _ range.0 in
+    let act = and_parts (nat_le d.pri 16) d.act pri.1 in
     let begun = one_more tasks runnable r h d (leb-true _ _ low.0) (leb-true _ _ high.0) free.0 act.1 in
     subst (λ ts. Begun (filled task_id task_at_start ds (set tasks d.id (Some (task_at_start d)))) ts (all_draw (map declared_id ds) (task_draws (declared_id d) r)))
     (append_assoc runnable (declared_id d ∷ []) (map declared_id ds))

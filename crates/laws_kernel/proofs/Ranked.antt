@@ -10,6 +10,7 @@ use Rattle.it_types.specs.declared.timeout.Tmo.{Tmo}
 use Rattle.it_types.specs.declared.timeout.Tmo.TheVariants as timeouts
 use Rattle.it_types.specs.declared.kernel_request.KReq.{KReq}
 use Rattle.it_types.specs.declared.kernel_request.KReq.TheVariants.{ExtTsk, DlyTsk, SigSem, TwaiSem}
+use Rattle.it_types.specs.Callers.{is_poll}
 use Rattle.spec_lists.specs.Tables.{get}
 use Rattle.spec_lists.specs.Refusal.{first_refusal}
 use Rattle.spec_lists.proofs.Firsts.{cases_of_first}
@@ -23,7 +24,7 @@ use Rattle.spec_kernel.specs.Tasks.{running}
 use Rattle.spec_kernel.specs.Settle.{Outcome, is_ready, first_ready, freed, end_of, settle, settled}
 use Rattle.spec_kernel.specs.Deadlines.{is_next_past, next_past, due}
 use Rattle.spec_kernel.specs.Outside.{blocked, unblocked, is_outside_of, outside_wait_of}
-use Rattle.spec_kernel.specs.Rows.{is_poll, deadline_of, refusals, accepted, carried_out, unless_refused, row, call, tick, quiet, ticked}
+use Rattle.spec_kernel.specs.Rows.{deadline_of, refusals, accepted, carried_out, unless_refused, row, call, tick, quiet, ticked}
 use Rattle.laws_kernel.specs.Runnable.{times_listed}
 use Rattle.laws_kernel.specs.Ranks.{Ranks, Ended, Ranked, task_draws, row_draws, settle_by_rank, settled_by_rank, call_by_rank, due_by_rank, tick_by_rank, RankedKernel, blocked_by_rank, unblocked_by_rank}
 use Rattle.laws_kernel.proofs.Rising.{first_is_least}

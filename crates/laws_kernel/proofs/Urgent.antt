@@ -1,15 +1,17 @@
 -- The running task by places is the running task by ranks.
-use Rattle.std.proofs.Common.{◌≡◌, ◌≢◌, ℕ, zero, suc, ◌+◌, ◌<◌, ◌≤◌, Bool, true, false, not, cond, ◌&&◌, ◌||◌, List, [], ◌∷◌, Option, None, refl, sym, ◌∙◌, ap, subst, inl, inr, arith}
+use Rattle.std.proofs.Common.{◌≡◌, ◌≢◌, ℕ, zero, suc, ◌+◌, ◌<◌, ◌≤◌, Bool, true, false, not, cond, ◌&&◌, List, [], ◌∷◌, Option, None, refl, sym, ◌∙◌, ap, subst, inl, inr, arith}
+use Rattle.std.proofs.Math.Bool.{or-true, and-false}
 use mathlib.Core.Logic.{◌⊎◌}
 use Rattle.std.specs.Prelude.{◌==◌, nat_lt}
 use Rattle.std.specs.List.{list_any}
-use Rattle.std.proofs.lemmas.Bool.{cases_Bool, cases_eq, eqb-true, eq-eqb, ne_eqb, lt-ltb, le-ltb, ltb-true, ltb-false}
+use Rattle.std.proofs.lemmas.Bool.{cases_Bool, cases_eq, eqb-true, eq-eqb, ne_eqb, lt-ltb, le-ltb, ltb-true, ltb-false, and_parts, and_from, not_from_false, not-true}
 use Rattle.it_types.specs.declared.id.TaskId.{TaskId}
+use Rattle.it_types.specs.Callers.{nobody}
 use Rattle.spec_lists.specs.Tables.{get}
 use Rattle.spec_lists.specs.First.{take_first}
 use Rattle.spec_lists.proofs.Firsts.{cases_of_first, found, none_any, none_from_parts}
 use Rattle.spec_kernel.specs.declared.task.Task.{Task}
-use Rattle.spec_kernel.specs.PlainKernel.{PlainKernel, greatest_id, nobody}
+use Rattle.spec_kernel.specs.PlainKernel.{PlainKernel, greatest_id}
 use Rattle.spec_kernel.specs.Tasks.{is_active, priority_of, most_urgent, running}
 use Rattle.laws_kernel.specs.Runnable.{one_if, times_listed, is_runnable, IsExact}
 use Rattle.laws_kernel.specs.Ranks.{Ranks, comes_before, ids_to, is_least, running_by_rank, task_or_nobody}
@@ -94,36 +96,20 @@ urgent_least tasks r best (t ∷ ts) rise id listed = elim (cases_Bool (nat_lt (
 lower_before : (tasks : List (Option Task)) (r : Ranks) (a b : ℕ) → IsLower tasks r a b → comes_before tasks r a b ≡ true
 unfolding IsLower
 lower_before tasks r a b (inl h) = rw (lt-ltb _ _ h) refl
-lower_before tasks r a b (inr h) = rw (eq-eqb _ _ h.0, lt-ltb _ _ h.1) (or_true (nat_lt (priority_of (get tasks a)) (priority_of (get tasks b))))
-  where
-    or_true : (c : Bool) → (c || (true && true)) ≡ true
-    or_true true = refl
-    or_true false = refl
+lower_before tasks r a b (inr h) = rw (eq-eqb _ _ h.0, lt-ltb _ _ h.1) (or-true (nat_lt (priority_of (get tasks a)) (priority_of (get tasks b))))
 
 at_most_not_before : (tasks : List (Option Task)) (r : Ranks) (a b : ℕ) → AtMost tasks r a b → comes_before tasks r b a ≡ false
 unfolding AtMost IsLower
-at_most_not_before tasks r a b (inl same) = rw same (rw (le-ltb (priority_of (get tasks b)) (priority_of (get tasks b)) (omega arith), le-ltb (r.task b) (r.task b) (omega arith)) (and_false (priority_of (get tasks b) == priority_of (get tasks b))))
-  where
-    and_false : (c : Bool) → (false || (c && false)) ≡ false
-    and_false true = refl
-    and_false false = refl
+at_most_not_before tasks r a b (inl same) = rw same (rw (le-ltb (priority_of (get tasks b)) (priority_of (get tasks b)) (omega arith), le-ltb (r.task b) (r.task b) (omega arith)) (and-false (priority_of (get tasks b) == priority_of (get tasks b))))
 at_most_not_before tasks r a b (inr (inl h)) = rw (le-ltb (priority_of (get tasks b)) (priority_of (get tasks a)) (omega (arith, h)), ne_eqb (priority_of (get tasks b)) (priority_of (get tasks a)) (λ e. omega (arith, h, e))) refl
-at_most_not_before tasks r a b (inr (inr h)) = rw (le-ltb (priority_of (get tasks b)) (priority_of (get tasks a)) (omega (arith, h.0)), le-ltb (r.task b) (r.task a) (omega (arith, h.1))) (and_false (priority_of (get tasks b) == priority_of (get tasks a)))
-  where
-    and_false : (c : Bool) → (false || (c && false)) ≡ false
-    and_false true = refl
-    and_false false = refl
+at_most_not_before tasks r a b (inr (inr h)) = rw (le-ltb (priority_of (get tasks b)) (priority_of (get tasks a)) (omega (arith, h.0)), le-ltb (r.task b) (r.task a) (omega (arith, h.1))) (and-false (priority_of (get tasks b) == priority_of (get tasks a)))
 
 any_id : (p : ℕ → Bool) (n id : ℕ) → 1 ≤ id → id ≤ n → p id ≡ true → list_any p (ids_to n) ≡ true
 any_id p zero id low high e = absurd (omega (arith, low, high))
 any_id p (suc n) id low high e = elim (cases_eq id (suc n)) [
   | inl same ↦ rw (ap p (sym same) ∙ e) refl
-  | inr other ↦ rw (any_id p n id low (omega (arith, high, other)) e) (or_true (p (suc n)))
+  | inr other ↦ rw (any_id p n id low (omega (arith, high, other)) e) (or-true (p (suc n)))
 ]
-  where
-    or_true : (c : Bool) → (c || true) ≡ true
-    or_true true = refl
-    or_true false = refl
 
 any_none : {X : Type 0} (p : X → Bool) (xs : List X) → ((x : X) → p x ≡ false) → list_any p xs ≡ false
 any_none p [] h = refl
@@ -157,23 +143,9 @@ no_runnable : (b : Bool) (n : ℕ) → n ≡ one_if b → n ≡ 0 → b ≡ fals
 no_runnable true n e z = absurd (omega (arith, e, z))
 no_runnable false n e z = refl
 
-and_not : (a b : Bool) → a ≡ true → b ≡ false → (a && not b) ≡ true
-and_not true false s t = refl
-and_not true true s t = absurd cc
-and_not false b s t = absurd cc
-
-and_parts : (a b : Bool) → (a && not b) ≡ true → (a ≡ true) × (b ≡ false)
-and_parts true false e = (refl, refl)
-and_parts true true e = absurd cc
-and_parts false b e = absurd cc
-
 and_false_at : (a b : Bool) → (a ≡ true → b ≡ false) → (a && b) ≡ false
 and_false_at true b h = h refl
 and_false_at false b h = refl
-
-active_part : (a b : Bool) → (a && b) ≡ true → a ≡ true
-active_part true b e = refl
-active_part false b e = absurd cc
 
 -- a runnable task that is at most another is the same, or comes before it
 same_or_before : (k : PlainKernel) (r : Ranks) (m id : ℕ)
@@ -203,20 +175,20 @@ module _ (k : PlainKernel) (r : Ranks) (h : StandsFor k r) where
       runnable = listed_runnable (is_runnable k m.0) (times_listed m.0 k.runnable) (exact.runnable m.0) listed
 
       active : is_active (get k.tasks m.0) ≡ true
-      active = active_part (is_active (get k.tasks m.0)) _ runnable
+      active = (and_parts (is_active (get k.tasks m.0)) _ runnable).0
 
       earlier : ℕ → ℕ → Bool
       earlier id other = is_runnable k other && comes_before k.tasks r other id
 
       passes : is_least k r m.0 ≡ true
-      passes = and_not (is_runnable k m.0) (list_any (λ other. is_runnable k other && comes_before k.tasks r other m.0) (ids_to greatest_id)) runnable
-          (any_none (λ other. is_runnable k other && comes_before k.tasks r other m.0) (ids_to greatest_id) (λ other. and_false_at (is_runnable k other) (comes_before k.tasks r other m.0)
-          (λ t. at_most_not_before k.tasks r m.0 other (least other (runnable_listed (is_runnable k other) (times_listed other k.runnable) (exact.runnable other) t)))))
+      passes = and_from (is_runnable k m.0) (not (list_any (earlier m.0) (ids_to greatest_id))) runnable
+          (not_from_false (list_any (earlier m.0) (ids_to greatest_id)) (any_none (λ other. is_runnable k other && comes_before k.tasks r other m.0) (ids_to greatest_id) (λ other. and_false_at (is_runnable k other) (comes_before k.tasks r other m.0)
+          (λ t. at_most_not_before k.tasks r m.0 other (least other (runnable_listed (is_runnable k other) (times_listed other k.runnable) (exact.runnable other) t))))))
 
       only : (id : ℕ) → is_least k r id ≡ true → id ≡ m.0
       only id e =
-          let parts = and_parts (is_runnable k id) (list_any (earlier id) (ids_to greatest_id)) e in
-          same_or_before k r m.0 id runnable (h.balanced.ids m.0 active) parts.1 (least id (runnable_listed (is_runnable k id) (times_listed id k.runnable) (exact.runnable id) parts.0))
+          let parts = and_parts (is_runnable k id) (not (list_any (earlier id) (ids_to greatest_id))) e in
+          same_or_before k r m.0 id runnable (h.balanced.ids m.0 active) (not-true _ parts.1) (least id (runnable_listed (is_runnable k id) (times_listed id k.runnable) (exact.runnable id) parts.0))
 
 none_by_rank : (k : PlainKernel) (r : Ranks) → IsExact k → k.runnable ≡ [] → running_by_rank k r ≡ nobody
 none_by_rank k r exact none = ap task_or_nobody (none_first (is_least k r) (ids_to greatest_id) fails)

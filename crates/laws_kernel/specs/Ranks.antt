@@ -9,17 +9,18 @@ use Rattle.it_types.specs.declared.id.CallNo.{CallNo}
 use Rattle.it_types.specs.declared.timeout.Tmo.{Tmo}
 use Rattle.it_types.specs.declared.context.Ctx.{Ctx}
 use Rattle.it_types.specs.declared.kernel_request.KReq.{KReq}
+use Rattle.it_types.specs.Callers.{nobody}
 use Rattle.spec_lists.specs.Tables.{get}
 use Rattle.spec_lists.specs.First.{take_first}
 use Rattle.spec_kernel.specs.declared.task.Task.{Task}
 use Rattle.spec_kernel.specs.declared.wait.Wait.{Wait}
 use Rattle.spec_kernel.specs.declared.outcome.KAns.{KAns}
-use Rattle.spec_kernel.specs.declared.outcome.KAns.TheVariants.{Pends, Quiet}
+use Rattle.spec_kernel.specs.declared.outcome.KAns.TheVariants.{Pends}
 use Rattle.spec_kernel.specs.declared.outcome.KEnd.{KEnd}
-use Rattle.spec_kernel.specs.PlainKernel.{PlainKernel, greatest_id, nobody}
+use Rattle.spec_kernel.specs.PlainKernel.{PlainKernel, greatest_id}
 use Rattle.spec_kernel.specs.Tasks.{priority_of}
 use Rattle.spec_kernel.specs.Settle.{Outcome, is_ready, freed, end_of, woken}
-use Rattle.spec_kernel.specs.Deadlines.{next_past, end_by_time}
+use Rattle.spec_kernel.specs.Deadlines.{next_past, by_time}
 use Rattle.spec_kernel.specs.Rows.{row, quiet, ticked}
 use Rattle.spec_kernel.specs.Outside.{blocked, outside_wait_of}
 use Rattle.laws_kernel.specs.Runnable.{is_runnable}
@@ -116,7 +117,7 @@ call_by_rank k r ctx request number = let o = row k ctx request number in settle
 -- the end of one call by time, and of all calls that are met then
 abbrev pub ended_by_time_and_rank : PlainKernel → Ranks → Wait × List Wait → Ranked
 ended_by_time_and_rank k r found =
-    settled_by_rank (record { kernel = woken k found.0 found.1; answer = Quiet; ends = end_by_time found.0 ∷ []; gone = nobody; begun = nobody }) (task_draws found.0.task r)
+    settled_by_rank (by_time k found) (task_draws found.0.task r)
 
 -- what the call of the least number whose deadline is past makes, None where there is none
 abbrev pub due_of_by_rank : PlainKernel → Ranks → Option (Wait × List Wait) → Option Ranked

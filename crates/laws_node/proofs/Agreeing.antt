@@ -2,7 +2,7 @@
 use Rattle.std.proofs.Common.{◌≡◌, ℕ, zero, suc, ◌+◌, ◌<◌, ◌≤◌, true, false, not, ◌&&◌, List, [], ◌∷◌, ◌++◌, length, Option, Some, None, refl, sym, ◌∙◌, ap, subst, inl, inr, arith}
 use mathlib.Core.Logic.{◌⊎◌}
 use Rattle.std.specs.Prelude.{◌==◌}
-use Rattle.std.proofs.lemmas.Bool.{cases_Bool, eqb-true, eq-eqb}
+use Rattle.std.proofs.lemmas.Bool.{cases_Bool, eqb-true, eq-eqb, and_parts}
 use Rattle.it_types.specs.declared.id.TaskId.{TaskId}
 use Rattle.it_types.specs.declared.id.CallNo.{CallNo}
 use Rattle.it_types.specs.declared.er.Er.{Er}
@@ -27,10 +27,9 @@ use Rattle.spec_kernel.proofs.Timing.{next_past_none, due_none, due_some}
 use Rattle.spec_net.specs.declared.pending.NetCall.{NetCall}
 use Rattle.spec_net.specs.declared.pending.PendingRequest.{PendingRequest}
 use Rattle.spec_net.specs.PlainNet.{PlainNet, NetOutcome}
-use Rattle.spec_net.specs.Callers.{timeout_of}
 use Rattle.spec_net.specs.Packets.{Arrived, arrived_in}
 use Rattle.spec_net.specs.NetSettle.{net_settled}
-use Rattle.spec_net.specs.UdpRows.{row, net_call}
+use Rattle.spec_net.specs.UdpRows.{row, net_call, timeout_of}
 use Rattle.spec_net.specs.Arrival.{after_arrival, quiet, arrive}
 use Rattle.spec_net.specs.NetEnds.{ended}
 use Rattle.spec_node.specs.declared.event.NodeRequest.TheVariants.{Kernel, Network}
@@ -50,7 +49,7 @@ use Rattle.laws_kernel.proofs.Ranked.{MayCall, call_same}
 use Rattle.spec_kernel.proofs.Settling.{call-last_call}
 use Rattle.spec_kernel.specs.declared.outcome.KAns.TheVariants as kernel_answers
 use Rattle.laws_node.specs.Agreement.{times, is_outside_call, is_net_call}
-use Rattle.laws_node.proofs.Times.{times_end, times_found, both}
+use Rattle.laws_node.proofs.Times.{times_end, times_found}
 use Rattle.laws_node.proofs.NetMoves.{call_number, Does, row_does}
 use Rattle.laws_node.proofs.KernelMoves.{KernelStands, AreInside, inside_is_none, settle_outside, settle_inside, settle_stands, settle_listed, call_outside, call_inside}
 use Rattle.laws_node.proofs.Waking.{Sound, SoundAfter, net_settled_sound, ended_sound}
@@ -250,15 +249,15 @@ network_called_sound n t request listed h =
 
 pub may_call : (n : PlainNode) (task : TaskId) → is_running n task ≡ true → MayCall n.kernel (contexts.Task task)
 may_call n task e =
-    let parts = both (not (task.0 == 0)) ((running_task n).0 == task.0) e in
+    let parts = and_parts (not (task.0 == 0)) ((running_task n).0 == task.0) e in
     (λ z. absurd (let f : not true ≡ true = ap not (sym (eq-eqb task.0 0 z)) ∙ parts.0 in cc), ap (λ i. record { 0 = i }) (eqb-true _ _ parts.1))
 
 pub step_sound : (n : PlainNode) (event : NodeEvent) → SoundNode n → is_admitted n event ≡ true → SoundNode (node_step n event).0
 unfolding node_step
 step_sound n (Call (contexts.Task task) (Kernel request)) h e =
-    kernel_called_sound n (contexts.Task task) request (may_call n task (both (is_running n task) (not (holds_answer n task)) e).0) h
+    kernel_called_sound n (contexts.Task task) request (may_call n task (and_parts (is_running n task) (not (holds_answer n task)) e).0) h
 step_sound n (Call (contexts.Task task) (Network request)) h e =
-    let may = may_call n task (both (is_running n task) (not (holds_answer n task)) e).0 in network_called_sound n task request (running_listed n.kernel.tasks n.kernel.runnable task may.0 may.1) h
+    let may = may_call n task (and_parts (is_running n task) (not (holds_answer n task)) e).0 in network_called_sound n task request (running_listed n.kernel.tasks n.kernel.runnable task may.0 may.1) h
 step_sound n (Call contexts.Handler request) h e = absurd cc
 step_sound n (Return task) h e = returned_sound n task h
 step_sound n Tick h e = ticked_sound n h

@@ -1,7 +1,7 @@
 -- Over every list of events both parts of a node agree.
 use Rattle.std.proofs.Common.{◌≡◌, ℕ, zero, suc, ◌+◌, ◌≤◌, Bool, true, false, not, ltb, List, [], ◌∷◌, length, slice_set, Option, Some, None, is_some, refl, sym, ap, ◌∙◌, inl, inr, arith}
 use Rattle.std.specs.Prelude.{◌==◌}
-use Rattle.std.proofs.lemmas.Bool.{cases_Bool, cases_eq, ne_eqb}
+use Rattle.std.proofs.lemmas.Bool.{cases_Bool, cases_eq, ne_eqb, and_parts, not-true}
 use Rattle.std.proofs.lemmas.List.{get_or-set_other}
 use Rattle.it_types.specs.declared.id.TaskId.{TaskId}
 use Rattle.it_types.specs.declared.id.CallNo.{CallNo}
@@ -14,6 +14,7 @@ use Rattle.it_types.specs.declared.conf.KConf.{KConf}
 use Rattle.it_types.specs.declared.kernel_request.KReq.{KReq}
 use Rattle.it_types.specs.declared.kernel_request.KReq.TheVariants.{ExtTsk, DlyTsk, SigSem, TwaiSem}
 use Rattle.it_types.specs.declared.network_request.NReq.{NReq}
+use Rattle.it_types.specs.Callers.{caller, is_poll}
 use Rattle.spec_lists.specs.Tables.{get}
 use Rattle.spec_lists.specs.Refusal.{first_refusal}
 use Rattle.spec_kernel.specs.declared.wait.WaitFor.{WaitFor}
@@ -21,14 +22,14 @@ use Rattle.spec_kernel.specs.declared.wait.WaitFor.TheVariants as targets
 use Rattle.spec_kernel.specs.PlainKernel.{PlainKernel}
 use Rattle.spec_kernel.specs.Semaphores.{count_of}
 use Rattle.spec_kernel.specs.Settle.{Outcome, settled}
-use Rattle.spec_kernel.specs.Rows.{refusals, is_poll, caller, deadline_of, waiting, accepted, carried_out, unless_refused, row, call}
+use Rattle.spec_kernel.specs.Rows.{refusals, deadline_of, waiting, accepted, carried_out, unless_refused, row, call}
 use Rattle.spec_kernel.specs.Rows as kernel_rows
 use Rattle.spec_kernel.specs.Opening.{IsDeclarable}
 use Rattle.spec_net.specs.declared.pending.NetCall.{NetCall}
 use Rattle.spec_net.specs.declared.outcome.NetAnswer.{NetAnswer}
 use Rattle.spec_net.specs.declared.outcome.NetAnswer.TheVariants as net_answers
 use Rattle.spec_net.specs.PlainNet.{NetOutcome}
-use Rattle.spec_net.specs.Callers.{timeout_of}
+use Rattle.spec_net.specs.UdpRows.{timeout_of}
 use Rattle.spec_net.specs.Packets.{arrived_in}
 use Rattle.spec_net.specs.NetSettle.{net_settled}
 use Rattle.spec_net.specs.UdpRows as net_rows
@@ -49,7 +50,6 @@ use Rattle.laws_kernel.proofs.Urgent.{running_listed}
 use Rattle.laws_kernel.proofs.Ranked.{MayCall}
 use Rattle.laws_kernel.proofs.Opened.{opened_stands}
 use Rattle.laws_node.specs.Agreement.{AreAbove, AreInOrder, PartsAgree, taken, AgreeAlong}
-use Rattle.laws_node.proofs.Times.{both}
 use Rattle.laws_node.proofs.NetMoves.{call_number, row_does}
 use Rattle.laws_node.proofs.KernelMoves.{row_ends, call_inside, settle_inside}
 use Rattle.laws_node.proofs.Waking.{Sound, net_settled_sound}
@@ -176,18 +176,14 @@ returned_free n task free id there = elim (cases_eq id task.0) [
   | inr other ↦ free id (sym (ap is_some (get_or-set_other n.held task.0 id None None other)) ∙ there)
 ]
 
-not_true : (b : Bool) → not b ≡ true → b ≡ false
-not_true true e = cc
-not_true false e = refl
-
 step_free : (n : PlainNode) (event : NodeEvent) → SoundNode n → NodeFree n → is_admitted n event ≡ true → NodeFree (node_step n event).0
 unfolding node_step
 step_free n (Call (contexts.Task task) (Kernel request)) h free e =
-    let parts = both (is_running n task) (not (holds_answer n task)) e in kernel_called_free n task request (may_call n task parts.0) (not_true (holds_answer n task) parts.1) h free
+    let parts = and_parts (is_running n task) (not (holds_answer n task)) e in kernel_called_free n task request (may_call n task parts.0) (not-true (holds_answer n task) parts.1) h free
 step_free n (Call (contexts.Task task) (Network request)) h free e =
-    let parts = both (is_running n task) (not (holds_answer n task)) e in
+    let parts = and_parts (is_running n task) (not (holds_answer n task)) e in
     let may = may_call n task parts.0 in
-    network_called_free n task request (running_listed n.kernel.tasks n.kernel.runnable task may.0 may.1) (not_true (holds_answer n task) parts.1) h free
+    network_called_free n task request (running_listed n.kernel.tasks n.kernel.runnable task may.0 may.1) (not-true (holds_answer n task) parts.1) h free
 step_free n (Call contexts.Handler request) h free e = absurd cc
 step_free n (Return task) h free e = returned_free n task free
 step_free n Tick h free e = ticked_free n h free

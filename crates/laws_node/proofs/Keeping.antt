@@ -13,6 +13,7 @@ use Rattle.it_types.specs.declared.timeout.Tmo.{Tmo}
 use Rattle.it_types.specs.declared.context.Ctx.{Ctx}
 use Rattle.it_types.specs.declared.network_request.NReq.{NReq}
 use Rattle.it_types.specs.declared.network_request.NReq.TheVariants.{UdpCreCep, UdpSndDat, UdpRcvDat}
+use Rattle.it_types.specs.Callers.{caller, is_poll}
 use Rattle.spec_lists.specs.Tables.{get, change}
 use Rattle.spec_lists.specs.First.{take_first}
 use Rattle.spec_lists.specs.Refusal.{first_refusal}
@@ -27,7 +28,6 @@ use Rattle.spec_net.specs.declared.pending.PendingRequest.TheVariants.{UdpReceiv
 use Rattle.spec_net.specs.PlainNet.{PlainNet, NetOutcome, queue_limit, opened_net}
 use Rattle.spec_net.specs.Ports.{has_port, is_taken, port_for}
 use Rattle.spec_net.specs.Packets.{Arrived, arrived_in}
-use Rattle.spec_net.specs.Callers.{caller, is_poll}
 use Rattle.spec_net.specs.Receiving.{queue_of, rest_of, without_oldest}
 use Rattle.spec_net.specs.NetSettle.{is_ready, first_ready, taken, freed, settle, net_settled}
 use Rattle.spec_net.specs.UdpRows.{is_receive_at, refusals, accepted, received, carried_out, unless_refused, row, net_call}

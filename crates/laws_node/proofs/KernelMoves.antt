@@ -9,6 +9,7 @@ use Rattle.it_types.specs.declared.timeout.Tmo.TheVariants as timeouts
 use Rattle.it_types.specs.declared.context.Ctx.{Ctx}
 use Rattle.it_types.specs.declared.kernel_request.KReq.{KReq}
 use Rattle.it_types.specs.declared.kernel_request.KReq.TheVariants.{ExtTsk, DlyTsk, SigSem, TwaiSem}
+use Rattle.it_types.specs.Callers.{caller, is_poll}
 use Rattle.spec_lists.specs.Tables.{get}
 use Rattle.spec_lists.specs.Refusal.{first_refusal}
 use Rattle.spec_lists.proofs.Firsts.{cases_of_first}
@@ -21,7 +22,7 @@ use Rattle.spec_kernel.specs.PlainKernel.{PlainKernel}
 use Rattle.spec_kernel.specs.Semaphores.{count_of}
 use Rattle.spec_kernel.specs.Settle.{Outcome, is_met, is_ready, first_ready, freed, settle, settled}
 use Rattle.spec_kernel.specs.Deadlines.{is_outside}
-use Rattle.spec_kernel.specs.Rows.{refusals, is_poll, caller, accepted, waiting, carried_out, unless_refused, row, call}
+use Rattle.spec_kernel.specs.Rows.{refusals, accepted, waiting, carried_out, unless_refused, row, call}
 use Rattle.laws_kernel.specs.Runnable.{one_if, times_listed}
 use Rattle.laws_kernel.specs.Ranks.{Ranks, task_draws}
 use Rattle.laws_kernel.proofs.Standing.{StandsFor, freed_stands}

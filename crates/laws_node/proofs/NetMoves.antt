@@ -2,7 +2,7 @@
 use Rattle.std.proofs.Common.{◌≡◌, ℕ, zero, suc, ◌+◌, ◌≤◌, Bool, true, ◌&&◌, List, [], ◌∷◌, ◌++◌, length, Option, Some, None, refl, ◌∙◌, ap, subst, inl, inr, arith}
 use mathlib.Core.Logic.{◌⊎◌}
 use Rattle.std.specs.Prelude.{◌==◌}
-use Rattle.std.proofs.lemmas.Bool.{cases_Bool, eqb-true}
+use Rattle.std.proofs.lemmas.Bool.{cases_Bool, eqb-true, and_parts}
 use Rattle.it_types.specs.declared.id.CallNo.{CallNo}
 use Rattle.it_types.specs.declared.er.Er.{Er}
 use Rattle.it_types.specs.declared.er.TheConstants.{E_OK, E_TMOUT}
@@ -11,6 +11,7 @@ use Rattle.it_types.specs.declared.timeout.Tmo.{Tmo}
 use Rattle.it_types.specs.declared.context.Ctx.{Ctx}
 use Rattle.it_types.specs.declared.network_request.NReq.{NReq}
 use Rattle.it_types.specs.declared.network_request.NReq.TheVariants.{UdpCreCep, UdpSndDat, UdpRcvDat}
+use Rattle.it_types.specs.Callers.{caller, is_poll}
 use Rattle.spec_lists.specs.Tables.{get}
 use Rattle.spec_lists.specs.First.{put_back, take_first}
 use Rattle.spec_lists.specs.Refusal.{first_refusal}
@@ -23,7 +24,6 @@ use Rattle.spec_net.specs.declared.pending.PendingRequest.TheVariants.{UdpReceiv
 use Rattle.spec_net.specs.declared.outcome.NetAnswer.TheVariants.{Now, Pends}
 use Rattle.spec_net.specs.declared.outcome.NetEnd.{NetEnd}
 use Rattle.spec_net.specs.PlainNet.{PlainNet, NetOutcome}
-use Rattle.spec_net.specs.Callers.{caller, is_poll}
 use Rattle.spec_net.specs.Receiving.{queue_of, count_code, receive_code, receive_bytes}
 use Rattle.spec_net.specs.NetSettle.{is_ready, first_ready, received_end, end_for, freed, settle}
 use Rattle.spec_net.specs.UdpRows.{refusals, accepted, received, carried_out, unless_refused, row}
@@ -31,7 +31,7 @@ use Rattle.spec_net.specs.NetEnds.{has_number}
 use Rattle.laws_kernel.specs.Runnable.{one_if}
 use Rattle.laws_kernel.proofs.Rising.{AllAbove, AllBelow, Rises, rises_found, below_found}
 use Rattle.laws_node.specs.Agreement.{times, is_net_call}
-use Rattle.laws_node.proofs.Times.{times_found, is_one, both}
+use Rattle.laws_node.proofs.Times.{times_found, is_one}
 
 abbrev pub call_number : NetCall → ℕ
 call_number c = c.call.0
@@ -77,7 +77,7 @@ settle_left (suc n) net = elim (cases_of_first (first_ready net)) [
 none_above : (number id : ℕ) (cs : List NetCall) → AllAbove call_number number cs → times (is_net_call number id) cs ≡ 0
 none_above number id [] above = refl
 none_above number id (c ∷ cs) above = elim (cases_Bool (is_net_call number id c)) [
-  | inl t ↦ absurd (omega (arith, above.0, eqb-true c.call.0 number (both (c.call.0 == number) (c.who.0 == id) t).0))
+  | inl t ↦ absurd (omega (arith, above.0, eqb-true c.call.0 number (and_parts (c.call.0 == number) (c.who.0 == id) t).0))
   | inr t ↦ rw t (omega (arith, none_above number id cs above.1))
 ]
 

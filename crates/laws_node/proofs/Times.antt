@@ -1,7 +1,7 @@
 -- How many elements of a list pass a test, and of the calls of both parts.
-use Rattle.std.proofs.Common.{◌≡◌, ℕ, ◌+◌, ◌≤◌, Bool, true, false, ◌&&◌, List, [], ◌∷◌, ◌++◌, Some, None, refl, sym, ◌∙◌, inl, inr, arith}
+use Rattle.std.proofs.Common.{◌≡◌, ℕ, ◌+◌, ◌≤◌, Bool, true, false, List, [], ◌∷◌, ◌++◌, Some, None, refl, sym, ◌∙◌, inl, inr, arith}
 use Rattle.std.specs.Prelude.{◌==◌}
-use Rattle.std.proofs.lemmas.Bool.{cases_Bool}
+use Rattle.std.proofs.lemmas.Bool.{cases_Bool, and_parts}
 use Rattle.spec_lists.specs.First.{take_first}
 use Rattle.spec_lists.proofs.Firsts.{some_parts, none_parts}
 use Rattle.spec_kernel.specs.declared.wait.Wait.{Wait}
@@ -33,10 +33,6 @@ pub is_one : (b : Bool) → 1 ≤ one_if b → b ≡ true
 is_one true le = refl
 is_one false le = absurd (omega (arith, le))
 
-pub both : (a b : Bool) → (a && b) ≡ true → (a ≡ true) × (b ≡ true)
-both true b e = (refl, e)
-both false b e = absurd cc
-
 -- where none passes a test, none passes a harder one
 pub times_none : {X : Type 0} (p f : X → Bool) (xs : List X) → ((x : X) → p x ≡ true → f x ≡ true) → take_first f xs ≡ None → times p xs ≡ 0
 times_none p f [] harder e = refl
@@ -47,7 +43,7 @@ times_none p f (x ∷ xs) harder e = elim (cases_Bool (p x)) [
 
 outside_le_one : (number id : ℕ) (w : Wait) → one_if (is_outside_call number id w) ≤ one_if (w.task.0 == id)
 outside_le_one number id w = elim (cases_Bool (is_outside_call number id w)) [
-  | inl t ↦ (let parts = both (w.call.0 == number) (w.task.0 == id) (both (is_outside w.target) _ t).1 in rw (t, parts.1) (omega arith))
+  | inl t ↦ (let parts = and_parts (w.call.0 == number) (w.task.0 == id) (and_parts (is_outside w.target) _ t).1 in rw (t, parts.1) (omega arith))
   | inr t ↦ rw t (omega arith)
 ]
 

@@ -2,7 +2,7 @@
 -- tasks were woken.
 use Rattle.std.proofs.Common.{◌≡◌, ℕ, ◌+◌, ◌≤◌, Bool, true, false, ◌&&◌, List, [], ◌∷◌, length, Some, refl, sym, ◌∙◌, ap, subst, inl, inr, arith}
 use Rattle.std.specs.Prelude.{◌==◌}
-use Rattle.std.proofs.lemmas.Bool.{eqb-true, eq-eqb}
+use Rattle.std.proofs.lemmas.Bool.{eqb-true, eq-eqb, and_parts}
 use Rattle.it_types.specs.declared.id.TaskId.{TaskId}
 use Rattle.it_types.specs.declared.id.CallNo.{CallNo}
 use Rattle.it_types.specs.declared.er.Er.{Er}
@@ -26,7 +26,7 @@ use Rattle.laws_kernel.proofs.Rising.{AllBelow, Rises, rises_found, below_found}
 use Rattle.laws_kernel.proofs.Counting.{one_at_most, waiting_found}
 use Rattle.laws_kernel.proofs.Standing.{freed_stands}
 use Rattle.laws_node.specs.Agreement.{times, is_outside_call, is_net_call}
-use Rattle.laws_node.proofs.Times.{times_found, times_none, found_passes, is_one, both, outside_le_waiting}
+use Rattle.laws_node.proofs.Times.{times_found, times_none, found_passes, is_one, outside_le_waiting}
 use Rattle.laws_node.proofs.NetMoves.{call_number, is_end_of, settle_left, numbered_is}
 use Rattle.laws_node.proofs.KernelMoves.{KernelStands}
 
@@ -45,14 +45,14 @@ waits_once k id h = omega (arith, h.1.balanced.each id, one_at_most (is_active (
 
 key_parts : (number id : ℕ) (w : Wait) → is_outside_call number id w ≡ true → (is_outside w.target ≡ true) × (w.call.0 ≡ number) × (w.task.0 ≡ id)
 key_parts number id w e =
-    let outer = both (is_outside w.target) ((w.call.0 == number) && (w.task.0 == id)) e in
-    let inner = both (w.call.0 == number) (w.task.0 == id) outer.1 in
+    let outer = and_parts (is_outside w.target) ((w.call.0 == number) && (w.task.0 == id)) e in
+    let inner = and_parts (w.call.0 == number) (w.task.0 == id) outer.1 in
     (outer.0, eqb-true w.call.0 number inner.0, eqb-true w.task.0 id inner.1)
 
 is_of_task : (number : ℕ) (task : TaskId) (w : Wait) → is_outside_call number task.0 w ≡ true → is_outside_of task w ≡ true
 is_of_task number task w e =
-    let outer = both (is_outside w.target) ((w.call.0 == number) && (w.task.0 == task.0)) e in
-    rw ((both (w.call.0 == number) (w.task.0 == task.0) outer.1).1, outer.0) refl
+    let outer = and_parts (is_outside w.target) ((w.call.0 == number) && (w.task.0 == task.0)) e in
+    rw ((and_parts (w.call.0 == number) (w.task.0 == task.0) outer.1).1, outer.0) refl
 
 -- the key of the wait is that of the end
 key_same : (number id n i : ℕ) (w : Wait) → is_outside_call number id w ≡ true → is_outside_call n i w ≡ ((number == n) && (id == i))
@@ -65,7 +65,7 @@ only_wait : (k : PlainKernel) (number : ℕ) (task : TaskId) (z : Wait × List W
     → outside_wait_of k task ≡ Some z
     → is_outside_call number task.0 z.0 ≡ true
 only_wait k number task z h le e =
-    let passes = both (z.0.task.0 == task.0) (is_outside z.0.target) (found_passes (is_outside_of task) k.waits z e) in
+    let passes = and_parts (z.0.task.0 == task.0) (is_outside z.0.target) (found_passes (is_outside_of task) k.waits z e) in
     let one : one_if (z.0.task.0 == task.0) ≡ 1 = ap one_if passes.0 in
     is_one (is_outside_call number task.0 z.0)
     (omega (
@@ -98,7 +98,7 @@ unblocks k e h le = elim (cases_of_first (outside_wait_of k e.who)) [
         stands = (task_draws z.0.task h.0, freed_stands h.1 (is_outside_of e.who) z w.1);
         same = λ n i. omega (arith, times_found (is_outside_call n i) (is_outside_of e.who) k.waits z w.1, ap one_if (key_same e.call.0 e.who.0 n i z.0 key));
         last = refl;
-        free = (let one : one_if (z.0.task.0 == e.who.0) ≡ 1 = ap one_if (both (z.0.task.0 == e.who.0) (is_outside z.0.target) (found_passes (is_outside_of e.who) k.waits z w.1)).0 in omega (arith, one, waits_once k e.who.0 h, waiting_found e.who.0 (is_outside_of e.who) k.waits z w.1));
+        free = (let one : one_if (z.0.task.0 == e.who.0) ≡ 1 = ap one_if (and_parts (z.0.task.0 == e.who.0) (is_outside z.0.target) (found_passes (is_outside_of e.who) k.waits z w.1)).0 in omega (arith, one, waits_once k e.who.0 h, waiting_found e.who.0 (is_outside_of e.who) k.waits z w.1));
         fewer = λ i. omega (arith, waiting_found i (is_outside_of e.who) k.waits z w.1);
       })
       )
@@ -170,14 +170,14 @@ not_waiting k task none = elim (cases_of_first (outside_wait_of k task)) [
   | inl e ↦ rw e refl
   | inr w ↦ (
       let z : Wait × List Wait = w.0 in
-      let one : one_if (z.0.task.0 == task.0) ≡ 1 = ap one_if (both (z.0.task.0 == task.0) (is_outside z.0.target) (found_passes (is_outside_of task) k.waits z w.1)).0 in
+      let one : one_if (z.0.task.0 == task.0) ≡ 1 = ap one_if (and_parts (z.0.task.0 == task.0) (is_outside z.0.target) (found_passes (is_outside_of task) k.waits z w.1)).0 in
       absurd (omega (arith, none, one, waiting_found task.0 (is_outside_of task) k.waits z w.1))
       )
 ]
 
 net_key_same : (number id n i : ℕ) (c : NetCall) → is_net_call number id c ≡ true → is_net_call n i c ≡ ((number == n) && (id == i))
 net_key_same number id n i c e =
-    let parts = both (c.call.0 == number) (c.who.0 == id) e in rw (eqb-true c.call.0 number parts.0, eqb-true c.who.0 id parts.1) refl
+    let parts = and_parts (c.call.0 == number) (c.who.0 == id) e in rw (eqb-true c.call.0 number parts.0, eqb-true c.who.0 id parts.1) refl
 
 woken_first : (k : PlainKernel) (e : NetEnd) (es : List NetEnd) → unblocked k e.who ≡ (k, false) → woken_by k (e ∷ es) ≡ woken_by k es
 woken_first k e es same = ap (λ (u : PlainKernel × Bool). woken_by u.0 es) same
@@ -198,7 +198,7 @@ removed_sound : (k : PlainKernel) (net : PlainNet) (number : CallNo) (id : ℕ) 
     → SoundAfter k (woken_by k (ended net number code).ends) (ended net number code).net calls (ended net number code).ends
 unfolding ended net_settled
 removed_sound k net number id code calls z h last same listed rises below found key =
-    let is_id : z.0.who.0 ≡ id = eqb-true z.0.who.0 id (both (z.0.call.0 == number.0) (z.0.who.0 == id) key).1 in
+    let is_id : z.0.who.0 ≡ id = eqb-true z.0.who.0 id (and_parts (z.0.call.0 == number.0) (z.0.who.0 == id) key).1 in
     let runs : times_waiting z.0.who.0 k.waits ≡ 0 = subst (λ j. times_waiting j k.waits ≡ 0) (sym is_id) (omega (arith, waits_once k id h, listed)) in
     let without : PlainNet = record net { calls = z.1 } in
     let left = settle_left (length z.1) without in

@@ -16,7 +16,7 @@ use Rattle.spec_world.proofs.Appending.{stops_more}
 use Rattle.spec_sim.specs.Schedule.{Plan, PlainPlay, next, after, plan_of, opening}
 use Rattle.spec_sim.specs.Serial.{is_large, run, serial}
 use Rattle.spec_sim.proofs.Turns.{next_admitted}
-use Rattle.spec_sim.proofs.Underway.{run_none, run_large, run_more, after-size}
+use Rattle.spec_sim.proofs.Underway.{run_none, run_large, run_more, after-size, after-entry}
 use Rattle.laws_sim.proofs.Following.{after-ev}
 
 -- the history before goes on, and the play knows its size and how many entries more it may have
@@ -28,10 +28,6 @@ record IsUnderWay (n : ℕ) (before : List Entry) (p : PlainPlay) : Type 0 where
 after-world : (plan : Plan) (p : PlainPlay) (event : Event) → (after plan p event).0.world ≡ (step p.world event).0
 unfolding after
 after-world plan p event = refl
-
-after-entry : (plan : Plan) (p : PlainPlay) (event : Event) → (after plan p event).1 ≡ (step p.world event).1
-unfolding after
-after-entry plan p event = refl
 
 -- the history with the entry of an event that isn't the stop goes on
 goes_on : (n : ℕ) (plan : Plan) (before : List Entry) (p : PlainPlay)

@@ -1,4 +1,4 @@
--- The schedule, point by point: which event is next, and that a history has just these events.
+-- The schedule, point by point: which event is next, and that a history has just these events. It is this project's own.
 use Rattle.std.specs.Prelude.{◌≡◌, ◌≢◌, ℕ, ◌<◌, ◌≤◌, Bool, true, false, List, [], ◌∷◌, ◌++◌, length, filter, Some, None, slice_index}
 use Rattle.it_types.specs.declared.id.TaskId.{TaskId}
 use Rattle.it_types.specs.declared.id.NodeId.{NodeId}

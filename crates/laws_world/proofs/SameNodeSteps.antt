@@ -10,7 +10,8 @@ use Rattle.it_types.specs.declared.network_request.NReq.{NReq}
 use Rattle.it_types.specs.declared.answer.Ans.{Ans}
 use Rattle.it_types.specs.declared.answer.Ans.TheVariants as answers
 use Rattle.it_types.specs.declared.entry.Out.{Out}
-use Rattle.spec_kernel.specs.PlainKernel.{PlainKernel, nobody}
+use Rattle.it_types.specs.Callers.{nobody}
+use Rattle.spec_kernel.specs.PlainKernel.{PlainKernel}
 use Rattle.spec_kernel.specs.Settle.{Outcome}
 use Rattle.spec_kernel.specs.Rows.{call, tick}
 use Rattle.spec_kernel.specs.Opening.{IsDeclarable}
@@ -29,7 +30,7 @@ use Rattle.laws_kernel.proofs.Standing.{StandsFor}
 use Rattle.laws_kernel.proofs.Urgent.{same_running, running_listed}
 use Rattle.laws_kernel.proofs.Ranked.{MayCall, call_same, tick_same}
 use Rattle.laws_kernel.proofs.Opened.{opened_stands}
-use Rattle.laws_node.proofs.Times.{both}
+use Rattle.std.proofs.lemmas.Bool.{and_parts}
 use Rattle.laws_node.proofs.Agreeing.{may_call}
 use Rattle.laws_node.proofs.Along.{Holds, step_holds, opening_holds}
 use Rattle.laws_world.specs.RankedProgress.{RankedProgress, after_net_by_rank, after_kernel_by_rank, timed_out_by_rank}
@@ -105,8 +106,8 @@ returned_same n task h = record { node = refl; out = refl; stands = h.stands }
 
 pub node_step_same : (n : RankedNode) (event : NodeEvent) → NodeStands n → is_admitted n.node event ≡ true → SameStep (node_step_by_rank n event) (node_step n.node event)
 unfolding node_step_by_rank node_step
-node_step_same n (Call (contexts.Task task) (Kernel request)) h e = kernel_called_same n task request (may_call n.node task (both (is_running n.node task) (not (holds_answer n.node task)) e).0) h
-node_step_same n (Call (contexts.Task task) (Network request)) h e = network_called_same n task request (may_call n.node task (both (is_running n.node task) (not (holds_answer n.node task)) e).0) h
+node_step_same n (Call (contexts.Task task) (Kernel request)) h e = kernel_called_same n task request (may_call n.node task (and_parts (is_running n.node task) (not (holds_answer n.node task)) e).0) h
+node_step_same n (Call (contexts.Task task) (Network request)) h e = network_called_same n task request (may_call n.node task (and_parts (is_running n.node task) (not (holds_answer n.node task)) e).0) h
 node_step_same n (Call contexts.Handler request) h e = absurd cc
 node_step_same n (Return task) h e = returned_same n task h
 node_step_same n Tick h e = ticked_same n h

@@ -12,7 +12,7 @@ use Rattle.spec_net.specs.declared.outcome.NetAnswer.{NetAnswer}
 use Rattle.spec_net.specs.declared.outcome.NetAnswer.TheVariants as net_answers
 use Rattle.spec_net.specs.declared.outcome.NetEnd.{NetEnd}
 use Rattle.spec_net.specs.PlainNet.{NetOutcome}
-use Rattle.spec_net.specs.Callers.{timeout_of}
+use Rattle.spec_net.specs.UdpRows.{timeout_of}
 use Rattle.spec_net.specs.NetEnds.{ended}
 use Rattle.spec_node.specs.Progress.{Progress, woken_by, after_net, after_end, after_ends, after_kernel, time_turn, time_out, timed_out}
 use Rattle.spec_node.specs.NodeStep.{blocked_where}

@@ -9,11 +9,11 @@ use Rattle.it_types.specs.declared.network_request.NReq.{NReq}
 use Rattle.it_types.specs.declared.answer.Ans.{Ans}
 use Rattle.it_types.specs.declared.answer.Ans.TheVariants as answers
 use Rattle.it_types.specs.declared.entry.Out.{Out}
-use Rattle.spec_kernel.specs.PlainKernel.{PlainKernel, nobody}
+use Rattle.it_types.specs.Callers.{caller, nobody}
+use Rattle.spec_kernel.specs.PlainKernel.{PlainKernel}
 use Rattle.spec_net.specs.declared.outcome.NetAnswer.{NetAnswer}
 use Rattle.spec_net.specs.declared.outcome.NetAnswer.TheVariants as net_answers
-use Rattle.spec_net.specs.Callers.{caller, timeout_of}
-use Rattle.spec_net.specs.UdpRows.{net_call}
+use Rattle.spec_net.specs.UdpRows.{net_call, timeout_of}
 use Rattle.spec_net.specs.Arrival.{arrive}
 use Rattle.spec_node.specs.declared.event.NodeRequest.{NodeRequest}
 use Rattle.spec_node.specs.declared.event.NodeRequest.TheVariants.{Kernel, Network}

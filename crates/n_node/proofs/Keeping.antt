@@ -13,6 +13,7 @@ use Rattle.it_types.specs.declared.timeout.Tmo.TheVariants as timeouts
 use Rattle.it_types.specs.declared.context.Ctx.{Ctx}
 use Rattle.it_types.specs.declared.network_request.NReq.{NReq}
 use Rattle.it_types.specs.declared.network_request.NReq.TheVariants.{UdpCreCep, UdpSndDat, UdpRcvDat}
+use Rattle.it_types.specs.Callers.{caller, is_nblk, is_poll}
 use Rattle.spec_lists.specs.Tables.{get, change}
 use Rattle.spec_lists.specs.First.{take_first}
 use Rattle.spec_lists.specs.Refusal.{first_refusal}
@@ -26,12 +27,11 @@ use Rattle.spec_net.specs.declared.pending.PendingRequest.TheVariants.{UdpReceiv
 use Rattle.spec_net.specs.declared.outcome.NetAnswer.{NetAnswer}
 use Rattle.spec_net.specs.declared.outcome.NetAnswer.TheVariants as answers
 use Rattle.spec_net.specs.PlainNet.{PlainNet, NetOutcome}
-use Rattle.spec_net.specs.Callers.{caller, is_poll, is_nblk, timeout_of}
 use Rattle.spec_net.specs.Ports.{has_port, port_for}
 use Rattle.spec_net.specs.Packets.{Arrived, arrived_in}
 use Rattle.spec_net.specs.Receiving.{queue_of, without_oldest}
 use Rattle.spec_net.specs.NetSettle.{is_ready, first_ready, NetAtRest, taken, freed, settle, net_settled}
-use Rattle.spec_net.specs.UdpRows.{has_no_routine, refusals, accepted, received, carried_out, unless_refused, row, net_call}
+use Rattle.spec_net.specs.UdpRows.{has_no_routine, refusals, accepted, received, carried_out, unless_refused, row, net_call, timeout_of}
 use Rattle.spec_net.specs.Arrival.{given, delivered, after_arrival, quiet, arrive}
 use Rattle.spec_net.specs.NetEnds.{has_number, numbered, ended_at, ended}
 use Rattle.spec_net.proofs.Settling.{net_call_rests, arrive_rests, ended_rests}

@@ -14,10 +14,9 @@ use Rattle.spec_kernel.specs.PlainKernel.{PlainKernel}
 use Rattle.spec_net.specs.declared.outcome.NetAnswer.{NetAnswer}
 use Rattle.spec_net.specs.declared.outcome.NetAnswer.TheVariants as answers
 use Rattle.spec_net.specs.PlainNet.{PlainNet, NetOutcome}
-use Rattle.spec_net.specs.Callers.{timeout_of}
 use Rattle.spec_net.specs.Packets.{if_for, arrived_in}
 use Rattle.spec_net.specs.NetSettle.{NetAtRest, net_settled}
-use Rattle.spec_net.specs.UdpRows.{net_call}
+use Rattle.spec_net.specs.UdpRows.{net_call, timeout_of}
 use Rattle.spec_net.specs.Arrival.{after_arrival, quiet, arrive}
 use Rattle.spec_net.proofs.ArrivalCases.{arrive_dropped}
 use Rattle.e_udp.specs.Contexts.{context_of}

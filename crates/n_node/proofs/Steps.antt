@@ -1,8 +1,8 @@
 -- Each step of a node keeps what it keeps from event to event.
 use Rattle.std.proofs.Common.{◌≡◌, ℕ, zero, suc, ◌+◌, ◌≤◌, List, [], ◌∷◌, length, refl, subst, ◌∙◌, inl, inr, arith}
+use Rattle.spec_node.proofs.Progressing.{woken_by_keeps}
 use Rattle.std.proofs.lemmas.Bool.{cases_Bool}
 use Rattle.it_types.specs.declared.id.CallNo.{CallNo}
-use Rattle.it_types.specs.declared.id.TaskId.{TaskId}
 use Rattle.it_types.specs.declared.context.Ctx.{Ctx}
 use Rattle.it_types.specs.declared.kernel_request.KReq.{KReq}
 use Rattle.it_types.specs.declared.network_request.NReq.{NReq}
@@ -13,7 +13,6 @@ use Rattle.spec_kernel.specs.PlainKernel.{PlainKernel}
 use Rattle.spec_kernel.specs.Settle.{Outcome}
 use Rattle.spec_kernel.specs.Deadlines.{due}
 use Rattle.spec_kernel.specs.Rows as rows
-use Rattle.spec_kernel.specs.Outside.{unblocked, outside_wait_of}
 use Rattle.spec_kernel.proofs.Settling.{call-last_call, settled-last_call}
 use Rattle.spec_kernel.proofs.Timing.{due-last_call}
 use Rattle.spec_net.specs.declared.outcome.NetAnswer.{NetAnswer}
@@ -34,16 +33,8 @@ use Rattle.n_node.proofs.Keeping.{net_drawn, more_numbers, arrive_keeps, ended_k
 
 -- ---- the last number of the kernel stays
 
-unblocked-last_call : (k : PlainKernel) (task : TaskId) → (unblocked k task).0.last_call ≡ k.last_call
-unfolding unblocked
-unblocked-last_call k task = elim (cases_of_first (outside_wait_of k task)) [
-  | inl none ↦ rw none refl
-  | inr some ↦ rw some.1 refl
-]
-
 woken_by-last_call : (k : PlainKernel) (es : List NetEnd) → (woken_by k es).last_call ≡ k.last_call
-woken_by-last_call k [] = refl
-woken_by-last_call k (e ∷ es) = woken_by-last_call (unblocked k e.who).0 es ∙ unblocked-last_call k e.who
+woken_by-last_call k es = woken_by_keeps (λ (k : PlainKernel). k.last_call) (λ k w others. refl) k es
 
 -- what an event under way keeps, with this last number of the kernel
 record Along (calls last : ℕ) (p : Progress) : Type 0 where

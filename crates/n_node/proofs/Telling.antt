@@ -9,7 +9,8 @@ use Rattle.it_types.specs.declared.answer.Ans.{Ans}
 use Rattle.it_types.specs.declared.answer.Ans.TheVariants.{Quiet}
 use Rattle.it_types.specs.declared.entry.CallEnd.{CallEnd}
 use Rattle.it_types.specs.declared.entry.Out.{Out}
-use Rattle.spec_kernel.specs.PlainKernel.{PlainKernel, nobody}
+use Rattle.it_types.specs.Callers.{nobody}
+use Rattle.spec_kernel.specs.PlainKernel.{PlainKernel}
 use Rattle.spec_kernel.specs.Rows.{call, tick, quiet}
 use Rattle.k_core.specs.Does as kernel
 use Rattle.k_core.specs.declared.done.Done.{Done}

@@ -9,7 +9,7 @@ ghost use Rattle.n_node.specs.Plain.{plain};
 use crate::told::Turn;
 use crate::{Parts, Told};
 use e_udp::{NetAnswer, Udps};
-use it_types::{Ans, List, NoMemory, Out, TaskId};
+use it_types::{Ans, List, NoMemory, Out};
 use std::alloc::Global;
 
 /// The bytes of a packet reach the network part: where they are no datagram for it, they are silently dropped.
@@ -38,12 +38,7 @@ impl Parts {
         let out = receive(alloc, &mut self.udps, bytes, now)?;
         let mut told = Told::nothing(alloc);
         self.take_net(alloc, &mut told, out.ends, out.packs)?;
-        let turn = Turn {
-            gone: TaskId(0),
-            begun: TaskId(0),
-            before,
-            after: self.kernel.running(),
-        };
+        let turn = Turn::between(before, self.kernel.running());
         told.out(alloc, Ans::Quiet, turn)
     }
 }

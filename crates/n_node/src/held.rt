@@ -5,19 +5,16 @@ ghost use Rattle.spec_lists.specs.Tables.{get, empty_table};
 ghost use Rattle.spec_kernel.specs.PlainKernel.{greatest_id};
 ghost use Rattle.spec_node.specs.NodeStep.{held_answer};
 
-use it_types::{Ans, NoMemory, TaskId};
+use it_types::{Ans, NoMemory, TABLE_PLACES, TaskId};
 use spec_node::Held;
 use std::alloc::Global;
-
-/// The places of a table of tasks: the ids from 1 to 16, and the empty place 0.
-pub const TASK_PLACES: usize = 17;
 
 /// No task holds an answer.
 pub fn no_answers(alloc: Global) -> Result<Vec<Option<Held>>, NoMemory>
     ensures { IfOk result (λ held. held.items ≡ empty_table greatest_id) }
 {
-    let mut held = Vec::with_capacity(alloc, TASK_PLACES)?;
-    for _ in 0..TASK_PLACES {
+    let mut held = Vec::with_capacity(alloc, TABLE_PLACES)?;
+    for _ in 0..TABLE_PLACES {
         held.push(None)?;
     }
     Ok(held)

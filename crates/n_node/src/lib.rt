@@ -16,6 +16,3 @@ pub use node::Node;
 pub use parts::Parts;
 #[doc(hidden)]
 pub use told::Told;
-
-#[cfg(test)]
-mod tests;

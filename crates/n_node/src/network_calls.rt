@@ -139,12 +139,7 @@ impl Parts {
         let ans = self.answer(by, tmo, ans);
         let mut told = Told::nothing(alloc);
         self.take_net(alloc, &mut told, ends, packs)?;
-        let turn = Turn {
-            gone: TaskId(0),
-            begun: TaskId(0),
-            before,
-            after: self.kernel.running(),
-        };
+        let turn = Turn::between(before, self.kernel.running());
         told.out(alloc, ans, turn)
     }
 }

@@ -5,7 +5,6 @@ ghost use Rattle.spec_kernel.specs.Tasks.{is_active};
 ghost use Rattle.spec_kernel.specs.Opening.{IsDeclarable};
 ghost use Rattle.spec_node.specs.declared.event.NodeRequest.{NodeRequest};
 ghost use Rattle.spec_node.specs.declared.event.NodeEvent.TheVariants.{Call as Called, Return as Returned, Tick as Ticked, Arrive as Arrived};
-ghost use Rattle.spec_net.specs.Callers.{caller};
 ghost use Rattle.spec_node.specs.Parts.{part_of};
 ghost use Rattle.spec_node.specs.PlainNode.{opened_node, running_task, holds_answer};
 ghost use Rattle.spec_node.specs.Admitted.{is_admitted};
@@ -22,16 +21,6 @@ use std::marker::Model;
 pub struct Node {
     pub(crate) parts: Parts,
     failed: bool,
-}
-
-/// The task that calls, or 0 in a handler.
-fn caller(ctx: Ctx) -> TaskId
-    ensures { result ≡ caller ctx }
-{
-    match ctx {
-        Ctx::Task(task) => task,
-        Ctx::Handler => TaskId(0),
-    }
 }
 
 impl Model for Node {
@@ -121,7 +110,7 @@ impl Node {
             return Err(NoMemory);
         }
         self.failed = true;
-        let out = self.parts.call(alloc, caller(ctx), request)?;
+        let out = self.parts.call(alloc, ctx.caller(), request)?;
         self.failed = false;
         Ok(out)
     }

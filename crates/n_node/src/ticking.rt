@@ -7,7 +7,7 @@ ghost use Rattle.n_node.specs.Coming.{Moves};
 
 use crate::told::Turn;
 use crate::{Parts, Told};
-use it_types::{Ans, NoMemory, Out, TaskId};
+use it_types::{Ans, NoMemory, Out};
 use std::alloc::Global;
 
 impl Parts {
@@ -20,12 +20,7 @@ impl Parts {
         self.kernel.tick();
         let mut told = Told::nothing(alloc);
         self.end_past(alloc, &mut told)?;
-        let turn = Turn {
-            gone: TaskId(0),
-            begun: TaskId(0),
-            before,
-            after: self.kernel.running(),
-        };
+        let turn = Turn::between(before, self.kernel.running());
         told.out(alloc, Ans::Quiet, turn)
     }
 

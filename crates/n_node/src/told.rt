@@ -1,6 +1,7 @@
 //! What an event tells.
 
 ghost use Rattle.std.specs.Prelude.{◌≡◌, [], ◌∷◌, ◌++◌, IfOk, OnOk};
+ghost use Rattle.it_types.specs.Callers.{nobody};
 ghost use Rattle.spec_node.specs.NodeStep.{gone_marks, begun_marks, run_marks};
 
 use it_types::{Ans, Bytes, CallEnd, List, Mark, NoMemory, Out, TaskId};
@@ -21,6 +22,20 @@ pub struct Turn {
     pub begun: TaskId,
     pub before: TaskId,
     pub after: TaskId,
+}
+
+impl Turn {
+    /// No task ended or began.
+    pub(crate) fn between(before: TaskId, after: TaskId) -> Turn
+        ensures { result ≡ record { gone = nobody; begun = nobody; before = before; after = after } }
+    {
+        Turn {
+            gone: TaskId(0),
+            begun: TaskId(0),
+            before,
+            after,
+        }
+    }
 }
 
 impl Told {

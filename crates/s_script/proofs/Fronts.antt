@@ -31,12 +31,6 @@ stop_none : (b : Bool) (m : ℕ) → cond b (Some m) None ≡ None → b ≡ fal
 stop_none true m e = absurd cc
 stop_none false m e = refl
 
--- a place that is found is within
-pub stop_within : (test : ℕ → Bool) (xs : List ℕ) (n : ℕ) → Some n ≡ stop test xs → n < length xs
-stop_within test xs n e =
-    let s = stop_is (ltb (prefix_len test xs) (length xs)) (prefix_len test xs) n (sym e) in
-    rw s.1 (ltb-true _ _ s.0)
-
 -- the split at a place that is found
 pub split_at_stop : (test : ℕ → Bool) (xs : List ℕ) (n : ℕ) → Some n ≡ stop test xs → (take n xs, drop n xs) ≡ split_while test xs
 split_at_stop test xs n e =

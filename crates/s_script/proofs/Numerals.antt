@@ -1,5 +1,6 @@
 -- A number that is read is what its digits stand for, and a number that is written is read again.
 use Rattle.std.proofs.Common.{◌≡◌, ℕ, ◌+◌, ◌-◌, ◌*◌, ◌/◌, ◌%◌, ◌<◌, Bool, true, false, not, cond, eqb, ltb, List, [], ◌∷◌, ◌++◌, length, get_or, take, drop, Option, Some, None, is_some, unwrap_or, codes, refl, sym, ap, subst, ◌∙◌, append_assoc, inl, inr, arith}
+use Rattle.std.proofs.Math.Bool.{not-not}
 use Rattle.std.specs.List.{list_all}
 use Rattle.std.specs.Char.{is_ascii_digit, digit_value}
 use Rattle.std.specs.Int.{IsInRange}
@@ -40,15 +41,10 @@ front_digits bytes = digits_pass (split_while is_ascii_digit bytes).0 (split_pas
 abbrev no_digit_no : ℕ → Bool
 no_digit_no byte = not (not (is_ascii_digit byte))
 
--- what is turned twice is as before
-twice_not : (b : Bool) → not (not b) ≡ b
-twice_not true = refl
-twice_not false = refl
-
 -- the split by that test is the split of digits
 pub digits_split : (bytes front rest : List ℕ) → (front, rest) ≡ split_while no_digit_no bytes → ((front, rest) ≡ split_while is_ascii_digit bytes) × AllDigits 10 front
 digits_split bytes front rest e =
-    let same : (front, rest) ≡ split_while is_ascii_digit bytes = e ∙ split_same no_digit_no is_ascii_digit (λ x. twice_not (is_ascii_digit x)) bytes in
+    let same : (front, rest) ≡ split_while is_ascii_digit bytes = e ∙ split_same no_digit_no is_ascii_digit (λ x. not-not (is_ascii_digit x)) bytes in
     (same, own.to front (subst (λ (p : List ℕ × List ℕ). all_ascii_digits p.0 ≡ true) (sym same) (front_digits bytes)))
 
 -- digits up to a place

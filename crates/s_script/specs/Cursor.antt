@@ -1,4 +1,5 @@
--- Reading bytes from left to right: each step takes what it reads off the front, or there is nothing to be read.
+-- Reading bytes from left to right: each step takes what it reads off the front, or there is nothing to be read. It is this
+-- project's own.
 use Rattle.std.specs.Prelude.{◌≡◌, ℕ, Bool, List, [], ◌∷◌, Option, Some, None, ◌==◌, if◌then◌else◌}
 
 -- a step, and the next one on what it gave

@@ -1,4 +1,5 @@
--- How lines become a script: where each may stand, what is wrong with one, and what it adds to the draft.
+-- How lines become a script: where each may stand, what is wrong with one, and what it adds to the draft. It is this project's
+-- own.
 use Rattle.std.specs.Prelude.{ℕ, Bool, true, false, not, ◌&&◌, List, [], ◌∷◌, ◌++◌, length, Option, Some, None, is_some, unwrap_or, map, nat_lt, ◌==◌, if◌then◌else◌}
 use Rattle.std.specs.List.{flat_map, list_any}
 use Rattle.it_types.specs.declared.conf.TaskDecl.{TaskDecl}

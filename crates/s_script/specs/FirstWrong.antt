@@ -1,4 +1,4 @@
--- The lines with which a good script's can begin.
+-- The lines with which a good script's can begin: this project's own.
 use Rattle.std.specs.Prelude.{◌≡◌, ℕ, not, List, ◌++◌, map, take, filter}
 use Rattle.spec_script.specs.declared.script.Script.{Script}
 use Rattle.spec_script.specs.Lines.{line_text, lines_of}

@@ -1,4 +1,5 @@
--- Which line bytes are read as: one definition for each kind of line, over the bytes after its first word.
+-- Which line bytes are read as: one definition for each kind of line, over the bytes after its first word. It is this project's
+-- own.
 use Rattle.std.specs.Prelude.{ℕ, Bool, not, ◌&&◌, List, [], ◌∷◌, ◌++◌, Option, Some, None, is_some, unwrap_or, ◌==◌, if◌then◌else◌, codes, nat_eq}
 use Rattle.std.specs.Cmp.Lexicographic.{pointwise}
 use Rattle.it_types.specs.declared.request.Req.TheVariants as requests

@@ -1,4 +1,4 @@
--- How a text is read: line after line up to the first that is wrong.
+-- How a text is read: line after line up to the first that is wrong. It is this project's own.
 use Rattle.std.specs.Prelude.{◌≡◌, ℕ, ◌+◌, Bool, false, List, [], ◌∷◌, Option, Some, None, Result, Ok, Err, if◌then◌else◌}
 use Rattle.spec_script.specs.declared.script.Script.{Script}
 use Rattle.spec_script.specs.declared.script_line.ScriptLine.{ScriptLine}

@@ -2,7 +2,7 @@ ghost use Rattle.std.specs.Prelude.{◌≡◌, [], ◌∷◌, ◌++◌, OnOk, On
 ghost use Rattle.std.specs.List.{flat_map};
 ghost use Rattle.spec_script.specs.Lines.{ended, spelled, node_text, body_line, declaration_lines, first_node, second_node, head_lines, node_line, script_text};
 
-use it_types::words::{put_number, put_numbered, put_word};
+use it_types::words::{put_address, put_number, put_numbered, put_word};
 use it_types::{NoMemory, SemDecl, TaskDecl, spell_into};
 use spec_script::{Body, Decl, Line, NodeDecl, Script, ScriptLine};
 use std::alloc::Global;
@@ -22,27 +22,28 @@ fn put_ticks(out: &mut Vec<u8>, ticks: u32) -> Result<(), NoMemory>
     put_word(out, b"\n")
 }
 
-fn put_node(alloc: Global, out: &mut Vec<u8>, node: &NodeDecl) -> Result<(), NoMemory>
+fn put_node(out: &mut Vec<u8>, node: &NodeDecl) -> Result<(), NoMemory>
     ensures { OnOk result (out.new.items ≡ out.old.items ++ ended (node_text (node_line node.now))) }
 {
-    let (a, b) = (node.addr / 16777216, node.addr / 65536 % 256);
-    let (c, d) = (node.addr / 256 % 256, node.addr % 256);
-    let line = format!(in alloc; "{a}.{b}.{c}.{d} {} {}\n", node.isn0, node.top0)?;
-    put_word(out, line.as_bytes())
+    put_address(out, node.addr)?;
+    put_numbered(out, b" ", node.isn0)?;
+    put_word(out, b" ")?;
+    put_number(out, node.top0)?;
+    put_word(out, b"\n")
 }
 
-fn put_first_node(alloc: Global, out: &mut Vec<u8>, node: &NodeDecl) -> Result<(), NoMemory>
+fn put_first_node(out: &mut Vec<u8>, node: &NodeDecl) -> Result<(), NoMemory>
     ensures { OnOk result (out.new.items ≡ out.old.items ++ spelled (ScriptLine.FirstNode (node_line node.now))) }
 {
     put_word(out, b"node 0 ")?;
-    put_node(alloc, out, node)
+    put_node(out, node)
 }
 
-fn put_second_node(alloc: Global, out: &mut Vec<u8>, node: &NodeDecl) -> Result<(), NoMemory>
+fn put_second_node(out: &mut Vec<u8>, node: &NodeDecl) -> Result<(), NoMemory>
     ensures { OnOk result (out.new.items ≡ out.old.items ++ spelled (ScriptLine.SecondNode (node_line node.now))) }
 {
     put_word(out, b"node 1 ")?;
-    put_node(alloc, out, node)
+    put_node(out, node)
 }
 
 fn put_sem(out: &mut Vec<u8>, sem: SemDecl) -> Result<(), NoMemory>
@@ -114,26 +115,26 @@ fn second_node(s: &Script) -> &NodeDecl
     &s.nodes[1]
 }
 
-fn put_head(alloc: Global, out: &mut Vec<u8>, s: &Script) -> Result<(), NoMemory>
+fn put_head(out: &mut Vec<u8>, s: &Script) -> Result<(), NoMemory>
     ensures { OnOk result (out.new.items ≡ out.old.items ++ flat_map spelled (head_lines s.now)) }
 {
     put_word(out, b"itron 1\n")?;
     put_link(out, s.link[0])?;
     put_ticks(out, s.ticks)?;
-    put_first_node(alloc, out, first_node(s))
+    put_first_node(out, first_node(s))
 }
 
 fn put_last_lines(alloc: Global, out: &mut Vec<u8>, node: &NodeDecl) -> Result<(), NoMemory>
     ensures { OnOk result (out.new.items ≡ out.old.items ++ flat_map spelled (ScriptLine.SecondNode (node_line node.now) ∷ flat_map declaration_lines node.now.decls)) }
 {
-    put_second_node(alloc, out, node)?;
+    put_second_node(out, node)?;
     put_declarations(alloc, out, node.decls.as_slice())
 }
 
 fn put_script(alloc: Global, out: &mut Vec<u8>, s: &Script) -> Result<(), NoMemory>
     ensures { OnOk result (out.new.items ≡ out.old.items ++ script_text s.now) }
 {
-    put_head(alloc, out, s)?;
+    put_head(out, s)?;
     put_declarations(alloc, out, first_node(s).decls.as_slice())?;
     put_last_lines(alloc, out, second_node(s))
 }

@@ -1,6 +1,6 @@
 -- Among finitely many elements that pass a test, one has the least number.
 use Rattle.std.proofs.Common.{◌≡◌, ℕ, zero, suc, ◌+◌, ◌≤◌, Bool, true, false, not, ◌&&◌, ◌||◌, ltb, List, [], ◌∷◌, None, refl, ap, sym, ◌∙◌, inl, inr, arith}
-use Rattle.std.proofs.lemmas.Bool.{and_parts, ltb-true, lt-ltb, cases_lt}
+use Rattle.std.proofs.lemmas.Bool.{and_parts, ltb-true, lt-ltb, cases_lt, or_right}
 use Rattle.std.specs.List.{list_any}
 use Rattle.spec_lists.specs.First.{take_first}
 use Rattle.spec_lists.proofs.Firsts.{none_any, none_from_parts, none_parts, none_weaker, or_first}
@@ -13,17 +13,13 @@ is_least f key all x = f x && not (list_any (λ v. f v && ltb (key v) (key x)) a
 abbrev pub is_below : {X : Type 0} → (X → Bool) → (X → ℕ) → ℕ → X → Bool
 is_below f key n x = f x && ltb (key x) n
 
-either : (a b : Bool) → b ≡ true → (a || b) ≡ true
-either true b e = refl
-either false b e = e
-
 -- where no element that passes has a number below n, one with the number n is the least
 least_at : {X : Type 0} (f : X → Bool) (key : X → ℕ) (all : List X) (n : ℕ) (x : X)
     → list_any (is_below f key n) all ≡ false
     → (f x ≡ true) × (ltb (key x) (suc n) ≡ true)
     → (is_least f key all x || is_below f key n x) ≡ true
 least_at f key all n x none p = elim (cases_lt (key x) n) [
-  | inl lt ↦ either (is_least f key all x) (is_below f key n x) (rw (p.0, lt-ltb (key x) n lt) refl)
+  | inl lt ↦ or_right (is_least f key all x) (is_below f key n x) (rw (p.0, lt-ltb (key x) n lt) refl)
   | inr le ↦
       let same : key x ≡ n = omega (arith, ltb-true (key x) (suc n) p.1) in
       rw (p.0, ap (λ m. list_any (λ v. f v && ltb (key v) m) all) same, none) refl

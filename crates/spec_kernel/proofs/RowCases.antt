@@ -11,6 +11,7 @@ use Rattle.it_types.specs.declared.timeout.Tmo.TheVariants as timeouts
 use Rattle.it_types.specs.declared.context.Ctx.{Ctx}
 use Rattle.it_types.specs.declared.kernel_request.KReq.{KReq}
 use Rattle.it_types.specs.declared.kernel_request.KReq.TheVariants.{ExtTsk, DlyTsk, SigSem, TwaiSem}
+use Rattle.it_types.specs.Callers.{caller, is_poll, nobody}
 use Rattle.spec_lists.specs.Tables.{get, change}
 use Rattle.spec_lists.specs.First.{take_first}
 use Rattle.spec_lists.specs.Refusal.{first_refusal}
@@ -21,10 +22,10 @@ use Rattle.spec_kernel.specs.declared.wait.Wait.{Wait}
 use Rattle.spec_kernel.specs.declared.wait.WaitFor.{WaitFor}
 use Rattle.spec_kernel.specs.declared.wait.WaitFor.TheVariants as targets
 use Rattle.spec_kernel.specs.declared.outcome.KAns.TheVariants.{Now}
-use Rattle.spec_kernel.specs.PlainKernel.{PlainKernel, nobody}
+use Rattle.spec_kernel.specs.PlainKernel.{PlainKernel}
 use Rattle.spec_kernel.specs.Semaphores.{count_of, one_more, one_less}
 use Rattle.spec_kernel.specs.Settle.{Outcome, is_met, is_ready, first_ready, AtRest, taken, woken, freed, end_of, settled}
-use Rattle.spec_kernel.specs.Rows.{is_for, is_on, is_poll, caller, deadline_of, refusals, answered, waiting, accepted, exited, carried_out, row, call}
+use Rattle.spec_kernel.specs.Rows.{is_for, is_on, deadline_of, refusals, answered, waiting, accepted, exited, carried_out, row, call}
 use Rattle.spec_kernel.proofs.Allowed.{signal_there}
 use Rattle.spec_kernel.proofs.Readiness.{first_raised, none_lowered}
 use Rattle.spec_kernel.proofs.Settling.{settled_none, settled_one}

@@ -1,4 +1,4 @@
--- What settling does: it leaves no call ready, and changes neither the time, nor the tasks, nor the last number.
+-- What settling does: it leaves no call ready, and changes neither the time nor the last number.
 use Rattle.std.proofs.Common.{◌≡◌, ℕ, zero, suc, ◌≤◌, List, [], ◌∷◌, ◌++◌, length, Option, Some, None, refl, ◌∙◌, inl, inr, arith}
 use mathlib.Core.Logic.{◌⊎◌}
 use Rattle.std.proofs.lemmas.List.{nil_from_length, append-nil}
@@ -9,6 +9,7 @@ use Rattle.it_types.specs.declared.id.TaskId.{TaskId}
 use Rattle.it_types.specs.declared.timeout.Tmo.{Tmo}
 use Rattle.it_types.specs.declared.kernel_request.KReq.{KReq}
 use Rattle.it_types.specs.declared.kernel_request.KReq.TheVariants.{ExtTsk, DlyTsk, SigSem, TwaiSem}
+use Rattle.it_types.specs.Callers.{caller, is_poll}
 use Rattle.spec_lists.specs.Refusal.{first_refusal}
 use Rattle.spec_lists.proofs.Firsts.{cases_of_first, take_first-shorter}
 use Rattle.spec_kernel.specs.declared.wait.Wait.{Wait}
@@ -18,7 +19,7 @@ use Rattle.spec_kernel.specs.PlainKernel.{PlainKernel}
 use Rattle.spec_kernel.specs.Settle.{Outcome, is_ready, first_ready, AtRest, freed, end_of, settle, settled}
 use Rattle.spec_kernel.specs.declared.wait.WaitFor.TheVariants as targets
 use Rattle.spec_kernel.specs.Semaphores.{count_of}
-use Rattle.spec_kernel.specs.Rows.{refusals, is_poll, caller, carried_out, accepted, unless_refused, row, call, quiet, tick, ticked}
+use Rattle.spec_kernel.specs.Rows.{refusals, carried_out, accepted, unless_refused, row, call, quiet, tick, ticked}
 use Rattle.spec_lists.specs.Tables.{get}
 use Rattle.std.proofs.Common.{ltb}
 use Rattle.std.proofs.lemmas.Bool.{cases_Bool}
@@ -48,32 +49,18 @@ settle_rests (suc n) k le = elim (cases_of_first (first_ready k)) [
   | inr w ↦ rw w.1 (settle_rests n (freed k w.0.0 w.0.1) (omega (arith, take_first-shorter (is_ready k.semaphores) k.waits w.0 w.1)))
 ]
 
--- the time stays
-pub settle-now : (n : ℕ) (k : PlainKernel) → (settle n k).0.now ≡ k.now
+-- what each end keeps, settling keeps
+settle_keeps : {X : Type 0} (part : PlainKernel → X) → ((k : PlainKernel) (w : Wait) (others : List Wait) → part (freed k w others) ≡ part k) → (n : ℕ) (k : PlainKernel) → part (settle n k).0 ≡ part k
 unfolding settle
-settle-now zero k = refl
-settle-now (suc n) k = elim (cases_of_first (first_ready k)) [
+settle_keeps part kept zero k = refl
+settle_keeps part kept (suc n) k = elim (cases_of_first (first_ready k)) [
   | inl e ↦ rw e refl
-  | inr w ↦ rw w.1 (settle-now n (freed k w.0.0 w.0.1))
+  | inr w ↦ rw w.1 (settle_keeps part kept n (freed k w.0.0 w.0.1) ∙ kept k w.0.0 w.0.1)
 ]
 
--- the last number stays
+-- the last number
 pub settle-last_call : (n : ℕ) (k : PlainKernel) → (settle n k).0.last_call ≡ k.last_call
-unfolding settle
-settle-last_call zero k = refl
-settle-last_call (suc n) k = elim (cases_of_first (first_ready k)) [
-  | inl e ↦ rw e refl
-  | inr w ↦ rw w.1 (settle-last_call n (freed k w.0.0 w.0.1))
-]
-
--- the tasks stay as they are
-pub settle-tasks : (n : ℕ) (k : PlainKernel) → (settle n k).0.tasks ≡ k.tasks
-unfolding settle
-settle-tasks zero k = refl
-settle-tasks (suc n) k = elim (cases_of_first (first_ready k)) [
-  | inl e ↦ rw e refl
-  | inr w ↦ rw w.1 (settle-tasks n (freed k w.0.0 w.0.1))
-]
+settle-last_call n k = settle_keeps (λ (k : PlainKernel). k.last_call) (λ k w others. refl) n k
 
 -- no call waits that didn't
 pub settle-waits_le : (n : ℕ) (k : PlainKernel) → length (settle n k).0.waits ≤ length k.waits
@@ -102,15 +89,11 @@ settled_rests o = settle_rests (length o.kernel.waits) o.kernel (omega arith)
 
 pub settled-now : (o : Outcome) → (settled o).kernel.now ≡ o.kernel.now
 unfolding settled
-settled-now o = settle-now (length o.kernel.waits) o.kernel
+settled-now o = settle_keeps (λ (k : PlainKernel). k.now) (λ k w others. refl) (length o.kernel.waits) o.kernel
 
 pub settled-last_call : (o : Outcome) → (settled o).kernel.last_call ≡ o.kernel.last_call
 unfolding settled
 settled-last_call o = settle-last_call (length o.kernel.waits) o.kernel
-
-pub settled-tasks : (o : Outcome) → (settled o).kernel.tasks ≡ o.kernel.tasks
-unfolding settled
-settled-tasks o = settle-tasks (length o.kernel.waits) o.kernel
 
 pub settled-waits_le : (o : Outcome) → length (settled o).kernel.waits ≤ length o.kernel.waits
 unfolding settled

@@ -1,8 +1,7 @@
 -- What ends by time: where no deadline is past nothing does, and after all such ends no deadline is past, no call is ready
 -- where none was, and the time, the tasks, the last number and the answer are as before.
-use Rattle.std.proofs.Common.{◌≡◌, ℕ, zero, suc, ◌+◌, ◌≤◌, false, List, [], ◌∷◌, ◌++◌, length, Option, Some, None, refl, ap, sym, ◌∙◌, inl, inr, append_assoc, arith}
+use Rattle.std.proofs.Common.{◌≡◌, ℕ, zero, suc, ◌+◌, ◌≤◌, false, List, [], ◌∷◌, length, Option, Some, None, refl, ap, sym, ◌∙◌, inl, inr, arith}
 use Rattle.std.proofs.lemmas.Bool.{cases_Bool, lt-leb}
-use Rattle.std.proofs.lemmas.List.{nil_from_length, append-nil}
 use Rattle.it_types.specs.declared.id.CallNo.{CallNo}
 use Rattle.it_types.specs.declared.id.TaskId.{TaskId}
 use Rattle.it_types.specs.declared.er.Er.{Er}
@@ -11,20 +10,20 @@ use Rattle.it_types.specs.declared.timeout.Tmo.{Tmo}
 use Rattle.it_types.specs.declared.timeout.Tmo.TheVariants as timeouts
 use Rattle.it_types.specs.declared.kernel_request.KReq.{KReq}
 use Rattle.it_types.specs.declared.kernel_request.KReq.TheVariants.{ExtTsk, DlyTsk, SigSem, TwaiSem}
+use Rattle.it_types.specs.Callers.{caller, is_poll}
 use Rattle.spec_lists.specs.Tables.{get}
 use Rattle.spec_lists.specs.Refusal.{first_refusal}
 use Rattle.spec_lists.proofs.Firsts.{cases_of_first, found, none_append, none_from_parts, take_first-shorter}
 use Rattle.spec_kernel.specs.declared.wait.Wait.{Wait}
 use Rattle.spec_kernel.specs.declared.wait.WaitFor.{WaitFor}
 use Rattle.spec_kernel.specs.declared.wait.WaitFor.TheVariants as targets
-use Rattle.spec_kernel.specs.declared.outcome.KAns.TheVariants.{Quiet}
-use Rattle.spec_kernel.specs.PlainKernel.{PlainKernel, nobody}
+use Rattle.spec_kernel.specs.PlainKernel.{PlainKernel}
 use Rattle.spec_kernel.specs.Semaphores.{count_of}
 use Rattle.spec_kernel.specs.Settle.{Outcome, is_ready, first_ready, AtRest, freed, settle, settled, woken}
-use Rattle.spec_kernel.specs.Deadlines.{is_past, NoneIsPast, is_next_past, next_past, end_by_time, ended_by_time, due, time_out, timed_out}
-use Rattle.spec_kernel.specs.Rows.{refusals, is_poll, caller, deadline_of, carried_out, accepted, waiting, unless_refused, row, call, tick}
+use Rattle.spec_kernel.specs.Deadlines.{is_past, NoneIsPast, is_next_past, next_past, ended_by_time, due, by_time}
+use Rattle.spec_kernel.specs.Rows.{refusals, deadline_of, carried_out, accepted, waiting, unless_refused, row, call}
 use Rattle.spec_kernel.proofs.Least.{none_least, none_passes}
-use Rattle.spec_kernel.proofs.Settling.{settled_none, settled_rests, settled-now, settled-last_call, settled-tasks, settled-waits_le}
+use Rattle.spec_kernel.proofs.Settling.{settled_none, settled-last_call, settled-waits_le}
 use Rattle.std.proofs.Common.{ltb}
 
 -- ---- the next end by time
@@ -55,39 +54,14 @@ woken_rests k x rest e = (found (is_next_past k.now k.waits) (is_ready k.semapho
 pub due_alone : (k : PlainKernel) (x : Wait × List Wait)
     → AtRest k
     → next_past k ≡ Some x
-    → due k ≡ Some (record { kernel = woken k x.0 x.1; answer = Quiet; ends = end_by_time x.0 ∷ []; gone = nobody; begun = nobody })
+    → due k ≡ Some (by_time k x)
 due_alone k x rest e =
-    due_some k x e ∙ ap Some (settled_none (record { kernel = woken k x.0 x.1; answer = Quiet; ends = end_by_time x.0 ∷ []; gone = nobody; begun = nobody }) (woken_rests k x rest e))
-
--- where nothing is due, no deadline is past
-pub none_due : (k : PlainKernel) → due k ≡ None → NoneIsPast k
-none_due k e = elim (cases_of_first (next_past k)) [
-  | inl none ↦ next_past_none k none
-  | inr x ↦ absurd (let some = due_some k x.0 x.1 in cc)
-]
+    due_some k x e ∙ ap Some (settled_none (by_time k x) (woken_rests k x rest e))
 
 -- an end takes one call at least
-ended_shorter : (k : PlainKernel) (x : Wait × List Wait) → next_past k ≡ Some x → length (ended_by_time k x).kernel.waits + 1 ≤ length k.waits
+pub ended_shorter : (k : PlainKernel) (x : Wait × List Wait) → next_past k ≡ Some x → length (ended_by_time k x).kernel.waits + 1 ≤ length k.waits
 ended_shorter k x e =
-    omega (arith, settled-waits_le (record { kernel = woken k x.0 x.1; answer = Quiet; ends = end_by_time x.0 ∷ []; gone = nobody; begun = nobody }), take_first-shorter (is_next_past k.now k.waits) k.waits x e)
-
--- ---- all ends by time
-
--- where nothing is due, nothing ends
-pub time_out_none : (n : ℕ) (k : PlainKernel) → due k ≡ None → time_out n k ≡ (k, [])
-unfolding time_out
-time_out_none zero k e = refl
-time_out_none (suc n) k e = rw e refl
-
--- more turns than calls change nothing
-pub time_out_enough : (m n : ℕ) (k : PlainKernel) → length k.waits ≤ m → length k.waits ≤ n → time_out m k ≡ time_out n k
-unfolding time_out
-time_out_enough zero n k le lt = let none : k.waits ≡ [] = nil_from_length k.waits (omega arith) in sym (time_out_none n k (due_none k (rw none refl)))
-time_out_enough (suc m) zero k le lt = let none : k.waits ≡ [] = nil_from_length k.waits (omega arith) in time_out_none (suc m) k (due_none k (rw none refl))
-time_out_enough (suc m) (suc n) k le lt = elim (cases_of_first (next_past k)) [
-  | inl e ↦ rw (due_none k (next_past_none k e)) refl
-  | inr x ↦ rw (due_some k x.0 x.1) (rw (time_out_enough m n (ended_by_time k x.0).kernel (omega (arith, ended_shorter k x.0 x.1)) (omega (arith, ended_shorter k x.0 x.1))) refl)
-]
+    omega (arith, settled-waits_le (by_time k x), take_first-shorter (is_next_past k.now k.waits) k.waits x e)
 
 some_is : {o p : Outcome} → Some o ≡ Some p → o ≡ p
 some_is e = cc
@@ -107,97 +81,8 @@ due-last_call k p e = elim (cases_of_first (next_past k)) [
   | inl none ↦ absurd (let nothing = due_none k (next_past_none k none) in cc)
   | inr x ↦
       let same : ended_by_time k x.0 ≡ p = some_is (sym (due_some k x.0 x.1) ∙ e) in
-      rw (← same) (settled-last_call (record { kernel = woken k x.0.0 x.0.1; answer = Quiet; ends = end_by_time x.0.0 ∷ []; gone = nobody; begun = nobody }))
+      rw (← same) (settled-last_call (by_time k x.0))
 ]
-
--- what is due ends first, and then all else that is past
-pub time_out_some : (k : PlainKernel) (p : Outcome)
-    → due k ≡ Some p
-    → time_out (length k.waits) k ≡ ((time_out (length p.kernel.waits) p.kernel).0, p.ends ++ (time_out (length p.kernel.waits) p.kernel).1)
-unfolding time_out
-time_out_some k p e =
-    time_out_enough (length k.waits) (suc (length k.waits)) k (omega arith) (omega arith)
-    ∙ rw (e, time_out_enough (length k.waits) (length p.kernel.waits) p.kernel (omega (arith, due_shorter k p e)) (omega arith)) refl
-
--- after as many turns as calls wait, no deadline is past
-pub time_out_none_past : (n : ℕ) (k : PlainKernel) → length k.waits ≤ n → NoneIsPast (time_out n k).0
-unfolding time_out
-time_out_none_past zero k le = let none : k.waits ≡ [] = nil_from_length k.waits (omega arith) in rw none refl
-time_out_none_past (suc n) k le = elim (cases_of_first (next_past k)) [
-  | inl e ↦ rw (due_none k (next_past_none k e)) (next_past_none k e)
-  | inr x ↦ rw (due_some k x.0 x.1) (time_out_none_past n (ended_by_time k x.0).kernel (omega (arith, ended_shorter k x.0 x.1)))
-]
-
--- where no call is ready, none is afterwards
-pub time_out_rests : (n : ℕ) (k : PlainKernel) → AtRest k → AtRest (time_out n k).0
-unfolding time_out
-time_out_rests zero k rest = rest
-time_out_rests (suc n) k rest = elim (cases_of_first (next_past k)) [
-  | inl e ↦ rw (due_none k (next_past_none k e)) rest
-  | inr x ↦ rw (due_some k x.0 x.1) (time_out_rests n (ended_by_time k x.0).kernel (settled_rests (record { kernel = woken k x.0.0 x.0.1; answer = Quiet; ends = end_by_time x.0.0 ∷ []; gone = nobody; begun = nobody })))
-]
-
--- what each end keeps, all ends keep
-time_out_keeps : {X : Type 0} (part : PlainKernel → X)
-    → ((k : PlainKernel) (x : Wait × List Wait) → part (ended_by_time k x).kernel ≡ part k)
-    → (n : ℕ) (k : PlainKernel) → part (time_out n k).0 ≡ part k
-unfolding time_out
-time_out_keeps part kept zero k = refl
-time_out_keeps part kept (suc n) k = elim (cases_of_first (next_past k)) [
-  | inl e ↦ rw (due_none k (next_past_none k e)) refl
-  | inr x ↦ rw (due_some k x.0 x.1) (time_out_keeps part kept n (ended_by_time k x.0).kernel ∙ kept k x.0)
-]
-
--- the row of an end by time
-abbrev freed_row : PlainKernel → Wait × List Wait → Outcome
-freed_row k x = record { kernel = woken k x.0 x.1; answer = Quiet; ends = end_by_time x.0 ∷ []; gone = nobody; begun = nobody }
-
-pub time_out-now : (n : ℕ) (k : PlainKernel) → (time_out n k).0.now ≡ k.now
-time_out-now n k = time_out_keeps (λ (k : PlainKernel). k.now) (λ k x. settled-now (freed_row k x)) n k
-
-pub time_out-last_call : (n : ℕ) (k : PlainKernel) → (time_out n k).0.last_call ≡ k.last_call
-time_out-last_call n k = time_out_keeps (λ (k : PlainKernel). k.last_call) (λ k x. settled-last_call (freed_row k x)) n k
-
-pub time_out-tasks : (n : ℕ) (k : PlainKernel) → (time_out n k).0.tasks ≡ k.tasks
-time_out-tasks n k = time_out_keeps (λ (k : PlainKernel). k.tasks) (λ k x. settled-tasks (freed_row k x)) n k
-
--- ---- the outcome after all ends by time
-
--- where nothing is due, it stays
-pub timed_out_none : (o : Outcome) → due o.kernel ≡ None → timed_out o ≡ o
-unfolding timed_out
-timed_out_none o e = rw (time_out_none (length o.kernel.waits) o.kernel e, append-nil) refl
-
--- what is due ends first
-pub timed_out_some : (o p : Outcome) → due o.kernel ≡ Some p → timed_out o ≡ timed_out (record o { kernel = p.kernel; ends = o.ends ++ p.ends })
-unfolding timed_out
-timed_out_some o p e = rw (time_out_some o.kernel p e, append_assoc o.ends p.ends (time_out (length p.kernel.waits) p.kernel).1) refl
-
--- no deadline is past
-pub timed_out_none_past : (o : Outcome) → NoneIsPast (timed_out o).kernel
-unfolding timed_out
-timed_out_none_past o = time_out_none_past (length o.kernel.waits) o.kernel (omega arith)
-
--- where no call is ready, none is afterwards
-pub timed_out_rests : (o : Outcome) → AtRest o.kernel → AtRest (timed_out o).kernel
-unfolding timed_out
-timed_out_rests o rest = time_out_rests (length o.kernel.waits) o.kernel rest
-
-pub timed_out-now : (o : Outcome) → (timed_out o).kernel.now ≡ o.kernel.now
-unfolding timed_out
-timed_out-now o = time_out-now (length o.kernel.waits) o.kernel
-
-pub timed_out-last_call : (o : Outcome) → (timed_out o).kernel.last_call ≡ o.kernel.last_call
-unfolding timed_out
-timed_out-last_call o = time_out-last_call (length o.kernel.waits) o.kernel
-
-pub timed_out-tasks : (o : Outcome) → (timed_out o).kernel.tasks ≡ o.kernel.tasks
-unfolding timed_out
-timed_out-tasks o = time_out-tasks (length o.kernel.waits) o.kernel
-
-pub timed_out-answer : (o : Outcome) → (timed_out o).answer ≡ o.answer
-unfolding timed_out
-timed_out-answer o = refl
 
 -- ---- no deadline is past between events
 
@@ -252,7 +137,3 @@ pub call_none_past : (k : PlainKernel) (ctx : Ctx) (request : KReq) (number : Ca
 unfolding call
 call_none_past k ctx request number none =
     settled_none_past (row k ctx request number) (unless_refused_none_past k (first_refusal (refusals k ctx request)) (carried_out k ctx request number) none (carried_out_none_past k ctx request number none))
-
--- a tick with its ends leaves none past
-pub tick_none_past : (k : PlainKernel) → NoneIsPast (timed_out (tick k)).kernel
-tick_none_past k = timed_out_none_past (tick k)

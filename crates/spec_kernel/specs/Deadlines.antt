@@ -1,16 +1,17 @@
 -- Calls that end by time (µITRON4.0 section 2.1 for time-outs, 4.2 for the delay): each at the first tick at or past its
 -- deadline. That those of one tick end by rising number, one after another, is this project's own.
-use Rattle.std.specs.Prelude.{◌≡◌, ℕ, zero, suc, Bool, true, false, not, ◌&&◌, List, [], ◌∷◌, ◌++◌, length, Option, Some, None, nat_lt, nat_le}
+use Rattle.std.specs.Prelude.{◌≡◌, ℕ, Bool, true, false, not, ◌&&◌, List, [], ◌∷◌, Option, Some, None, nat_lt, nat_le}
 use Rattle.std.specs.List.{list_any}
 use Rattle.it_types.specs.declared.er.Er.{Er}
 use Rattle.it_types.specs.declared.er.TheConstants.{E_OK, E_TMOUT}
+use Rattle.it_types.specs.Callers.{nobody}
 use Rattle.spec_lists.specs.First.{take_first}
 use Rattle.spec_kernel.specs.declared.wait.Wait.{Wait}
 use Rattle.spec_kernel.specs.declared.wait.WaitFor.{WaitFor}
 use Rattle.spec_kernel.specs.declared.wait.WaitFor.TheVariants as targets
 use Rattle.spec_kernel.specs.declared.outcome.KAns.TheVariants.{Quiet}
 use Rattle.spec_kernel.specs.declared.outcome.KEnd.{KEnd}
-use Rattle.spec_kernel.specs.PlainKernel.{PlainKernel, nobody}
+use Rattle.spec_kernel.specs.PlainKernel.{PlainKernel}
 use Rattle.spec_kernel.specs.Settle.{Outcome, woken, settled}
 
 -- the deadline is at or before now
@@ -47,9 +48,13 @@ is_outside _ = false
 abbrev pub end_by_time : Wait → KEnd
 end_by_time w = record { call = w.call; task = w.task; code = code_by_time w.target; bytes = []; outside = is_outside w.target }
 
--- the end of one call by time, and of all calls that are met then
+-- the end of one call by time
+abbrev pub by_time : PlainKernel → Wait × List Wait → Outcome
+by_time k found = record { kernel = woken k found.0 found.1; answer = Quiet; ends = end_by_time found.0 ∷ []; gone = nobody; begun = nobody }
+
+-- and of all calls that are met then
 abbrev pub ended_by_time : PlainKernel → Wait × List Wait → Outcome
-ended_by_time k found = settled (record { kernel = woken k found.0 found.1; answer = Quiet; ends = end_by_time found.0 ∷ []; gone = nobody; begun = nobody })
+ended_by_time k found = settled (by_time k found)
 
 -- what the next call whose deadline is past makes, None where there is none
 abbrev pub due_of : PlainKernel → Option (Wait × List Wait) → Option Outcome
@@ -58,17 +63,3 @@ due_of k (Some found) = Some (ended_by_time k found)
 
 unfoldable pub due : PlainKernel → Option Outcome
 due k = due_of k (next_past k)
-
--- the end that was found, and what goes on after it
-abbrev pub time_turn : (PlainKernel → PlainKernel × List KEnd) → PlainKernel → Option Outcome → PlainKernel × List KEnd
-time_turn go_on k None = (k, [])
-time_turn go_on k (Some o) = let rest = go_on o.kernel in (rest.0, o.ends ++ rest.1)
-
--- while a deadline is past, the next such call ends: as many times as there are calls, at most
-unfoldable pub time_out : ℕ → PlainKernel → PlainKernel × List KEnd
-time_out zero k = (k, [])
-time_out (suc n) k = time_turn (time_out n) k (due k)
-
--- the outcome of a tick, after all calls whose deadline is past have ended
-unfoldable pub timed_out : Outcome → Outcome
-timed_out o = let rest = time_out (length o.kernel.waits) o.kernel in record o { kernel = rest.0; ends = o.ends ++ rest.1 }

@@ -17,7 +17,3 @@ pub record PlainKernel : Type 0 where
 -- the greatest id of a task and of a semaphore
 abbrev pub greatest_id : ℕ
 greatest_id = 16
-
--- no task
-abbrev pub nobody : TaskId
-nobody = record { 0 = 0 }

@@ -1,5 +1,6 @@
--- The kernel calls: for each the tests that refuse it, in order, and what it changes where none holds.
-use Rattle.std.specs.Prelude.{ℕ, ◌+◌, Bool, true, false, not, ◌&&◌, ◌||◌, List, [], ◌∷◌, ◌++◌, Option, Some, None, is_none, nat_lt, ◌==◌, if◌then◌else◌}
+-- The kernel calls (µITRON4.0 section 4.1 for the end of a task, 4.2 for the delay, 4.4.1 for the semaphores): for each the
+-- tests that refuse it, in order, and what it changes where none holds. The order of the tests is this project's own.
+use Rattle.std.specs.Prelude.{ℕ, ◌+◌, Bool, false, not, ◌&&◌, ◌||◌, List, [], ◌∷◌, ◌++◌, Option, Some, None, is_none, nat_lt, ◌==◌, if◌then◌else◌}
 use Rattle.std.specs.List.{list_any}
 use Rattle.it_types.specs.declared.id.TaskId.{TaskId}
 use Rattle.it_types.specs.declared.id.ObjId.{ObjId}
@@ -9,39 +10,22 @@ use Rattle.it_types.specs.declared.er.TheConstants.{E_OK, E_PAR, E_ID, E_CTX, E_
 use Rattle.it_types.specs.declared.timeout.Tmo.{Tmo}
 use Rattle.it_types.specs.declared.timeout.Tmo.TheVariants as timeouts
 use Rattle.it_types.specs.declared.context.Ctx.{Ctx}
-use Rattle.it_types.specs.declared.context.Ctx.TheVariants as contexts
 use Rattle.it_types.specs.declared.kernel_request.KReq.{KReq}
 use Rattle.it_types.specs.declared.kernel_request.KReq.TheVariants.{ExtTsk, DlyTsk, SigSem, TwaiSem}
+use Rattle.it_types.specs.Callers.{nobody, is_handler, caller, is_nblk, is_poll}
 use Rattle.spec_lists.specs.Tables.{get, change}
 use Rattle.spec_lists.specs.Refusal.{first_refusal}
 use Rattle.spec_kernel.specs.declared.wait.Wait.{Wait}
 use Rattle.spec_kernel.specs.declared.wait.WaitFor.{WaitFor}
 use Rattle.spec_kernel.specs.declared.wait.WaitFor.TheVariants as targets
 use Rattle.spec_kernel.specs.declared.outcome.KAns.TheVariants.{Now, Pends, Quiet}
-use Rattle.spec_kernel.specs.PlainKernel.{PlainKernel, greatest_id, nobody}
+use Rattle.spec_kernel.specs.PlainKernel.{PlainKernel, greatest_id}
 use Rattle.spec_kernel.specs.Tasks.{dormant, without}
 use Rattle.spec_kernel.specs.Semaphores.{count_of, is_full, one_more, one_less}
 use Rattle.spec_kernel.specs.Settle.{Outcome, settled}
 
-abbrev pub is_handler : Ctx → Bool
-is_handler contexts.Handler = true
-is_handler (contexts.Task t) = false
-
--- the task that calls, or nobody in a handler
-abbrev pub caller : Ctx → TaskId
-caller contexts.Handler = nobody
-caller (contexts.Task t) = t
-
-abbrev pub is_nblk : Tmo → Bool
-is_nblk timeouts.Nblk = true
-is_nblk _ = false
-
-abbrev pub is_poll : Tmo → Bool
-is_poll timeouts.Pol = true
-is_poll _ = false
-
--- the tick at which a call with this time-out ends, accepted at the tick now (µITRON4.0 section 2.1, time-outs and relative time): t ticks are over at
--- the tick after the t-th
+-- the tick at which a call with this time-out ends, accepted at the tick now (µITRON4.0 section 2.1, time-outs and relative
+-- time): t ticks are over at the tick after the t-th
 abbrev pub deadline_of : ℕ → Tmo → Option ℕ
 deadline_of now (timeouts.Ms ticks) = Some (now + ticks + 1)
 deadline_of now _ = None
@@ -59,8 +43,7 @@ is_for s targets.Outside = false
 abbrev pub is_on : ObjId → Wait → Bool
 is_on s w = is_for s w.target
 
--- The refusals of a request, in the order in which they are tested (µITRON4.0 section 4.1 for the end of a task, 4.2 for
--- the delay, 4.4.1 for the semaphores; the order is this project's own).
+-- the refusals of a request, in the order in which they are tested
 abbrev pub refusals : PlainKernel → Ctx → KReq → List (Bool × Er)
 refusals k ctx ExtTsk = (is_handler ctx, E_CTX) ∷ []
 refusals k ctx (DlyTsk ticks) = (is_handler ctx, E_CTX) ∷ []

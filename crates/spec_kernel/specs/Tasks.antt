@@ -1,9 +1,9 @@
 -- Tasks, and which of them runs (µITRON4.0 section 3.2).
 use Rattle.std.specs.Prelude.{ℕ, Bool, false, not, List, [], ◌∷◌, Option, Some, None, nat_lt, ◌==◌, if◌then◌else◌, filter}
 use Rattle.it_types.specs.declared.id.TaskId.{TaskId}
+use Rattle.it_types.specs.Callers.{nobody}
 use Rattle.spec_lists.specs.Tables.{get}
 use Rattle.spec_kernel.specs.declared.task.Task.{Task}
-use Rattle.spec_kernel.specs.PlainKernel.{nobody}
 
 abbrev pub priority_of : Option Task → ℕ
 priority_of None = 0

@@ -6,6 +6,7 @@ use Rattle.it_types.specs.declared.id.EndPt.{EndPt}
 use Rattle.it_types.specs.declared.context.Ctx.TheVariants.{Handler}
 use Rattle.it_types.specs.declared.timeout.Tmo.{Tmo}
 use Rattle.it_types.specs.declared.timeout.Tmo.TheVariants.{Pol, Nblk, Fevr, Ms}
+use Rattle.it_types.specs.Callers.{is_nblk}
 use Rattle.spec_wire.specs.Sum.{ones_sum}
 use Rattle.spec_wire.specs.Ipv4 as ipv4
 use Rattle.spec_wire.specs.Udp as udp
@@ -14,7 +15,6 @@ use Rattle.spec_net.specs.declared.outcome.NetAnswer.TheVariants.{Pends, Quiet}
 use Rattle.spec_net.specs.declared.pending.NetCall.{NetCall}
 use Rattle.spec_net.specs.declared.outcome.NetEnd.{NetEnd}
 use Rattle.spec_net.specs.PlainNet.{PlainNet, NetOutcome, opened_net}
-use Rattle.spec_net.specs.Callers.{is_nblk}
 use Rattle.spec_net.specs.Ports.{first_free}
 use Rattle.spec_net.specs.Packets.{arrived_in}
 use Rattle.spec_net.specs.NetSettle.{settle, net_settled}

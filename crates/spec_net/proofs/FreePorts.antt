@@ -48,15 +48,15 @@ from_le port (o ∷ os) = elim (cases_Bool (has_port_from port o)) [
 ]
 
 -- the search goes on past a taken port, and stays at a free one
-goes_on : (n first : ℕ) (udp : List (Option UdpPoint)) → is_taken udp first ≡ true → first_free (suc n) first udp ≡ first_free n (first + 1) udp
+pub goes_on : (n first : ℕ) (udp : List (Option UdpPoint)) → is_taken udp first ≡ true → first_free (suc n) first udp ≡ first_free n (first + 1) udp
 unfolding first_free
 goes_on n first udp t = rw (t, first_free) refl
 
-stays : (n first : ℕ) (udp : List (Option UdpPoint)) → is_taken udp first ≡ false → first_free (suc n) first udp ≡ first
+pub stays : (n first : ℕ) (udp : List (Option UdpPoint)) → is_taken udp first ≡ false → first_free (suc n) first udp ≡ first
 unfolding first_free
 stays n first udp t = rw (t, first_free) refl
 
-none_tried : (first : ℕ) (udp : List (Option UdpPoint)) → first_free 0 first udp ≡ first
+pub none_tried : (first : ℕ) (udp : List (Option UdpPoint)) → first_free 0 first udp ≡ first
 unfolding first_free
 none_tried first udp = refl
 

@@ -12,6 +12,7 @@ use Rattle.it_types.specs.declared.timeout.Tmo.{Tmo}
 use Rattle.it_types.specs.declared.context.Ctx.{Ctx}
 use Rattle.it_types.specs.declared.network_request.NReq.{NReq}
 use Rattle.it_types.specs.declared.network_request.NReq.TheVariants.{UdpCreCep, UdpSndDat, UdpRcvDat}
+use Rattle.it_types.specs.Callers.{caller, is_poll}
 use Rattle.spec_lists.specs.Tables.{get, change}
 use Rattle.spec_lists.specs.Refusal.{first_refusal}
 use Rattle.spec_lists.proofs.Changes.{get-change_other}
@@ -22,8 +23,7 @@ use Rattle.spec_net.specs.declared.pending.NetCall.{NetCall}
 use Rattle.spec_net.specs.declared.pending.PendingRequest.{PendingRequest}
 use Rattle.spec_net.specs.declared.pending.PendingRequest.TheVariants.{UdpReceive}
 use Rattle.spec_net.specs.PlainNet.{PlainNet, NetOutcome}
-use Rattle.spec_net.specs.Callers.{caller, is_poll}
-use Rattle.spec_net.specs.Receiving.{queue_of, rest_of, without_oldest}
+use Rattle.spec_net.specs.Receiving.{queue_of, without_oldest}
 use Rattle.spec_net.specs.NetSettle.{has_some, is_met, is_ready, NetAtRest}
 use Rattle.spec_net.specs.UdpRows.{refusals, accepted, received, carried_out, unless_refused, answered, row, net_call}
 use Rattle.spec_net.specs.NetEnds.{has_number, numbered, ended_at, ended}
@@ -40,10 +40,6 @@ still_rests : (net : PlainNet) (after : List (Option UdpPoint)) → NoMore net.u
 still_rests net after no_more rest = none_weaker (is_ready after) (is_ready net.udp) net.calls (λ c e. met_before net.udp after c.request no_more e) rest
 
 -- ---- the changes of end points
-
-rest_some : (queue : List Received) → has_some (rest_of queue) ≡ true → has_some queue ≡ true
-rest_some [] e = cc
-rest_some (d ∷ ds) e = refl
 
 point_there : (o : Option UdpPoint) (d : Received) (ds : List Received) → queue_of o ≡ d ∷ ds → (p : UdpPoint) × (o ≡ Some p)
 point_there None d ds e = cc

@@ -1,5 +1,4 @@
 pub mod PlainNet
-pub mod Callers
 pub mod Ports
 pub mod Packets
 pub mod Receiving

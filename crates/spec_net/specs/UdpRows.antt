@@ -10,9 +10,11 @@ use Rattle.it_types.specs.declared.id.EndPt.{EndPt}
 use Rattle.it_types.specs.declared.er.Er.{Er}
 use Rattle.it_types.specs.declared.er.TheConstants.{E_OK, E_PAR, E_ID, E_CTX, E_OBJ, E_NOEXS, E_TMOUT}
 use Rattle.it_types.specs.declared.timeout.Tmo.{Tmo}
+use Rattle.it_types.specs.declared.timeout.Tmo.TheVariants as timeouts
 use Rattle.it_types.specs.declared.context.Ctx.{Ctx}
 use Rattle.it_types.specs.declared.network_request.NReq.{NReq}
 use Rattle.it_types.specs.declared.network_request.NReq.TheVariants.{UdpCreCep, UdpSndDat, UdpRcvDat}
+use Rattle.it_types.specs.Callers.{caller, is_handler, is_nblk, is_poll}
 use Rattle.spec_lists.specs.Tables.{get, change}
 use Rattle.spec_lists.specs.Refusal.{first_refusal}
 use Rattle.spec_net.specs.declared.point.Received.{Received}
@@ -22,7 +24,6 @@ use Rattle.spec_net.specs.declared.pending.PendingRequest.{PendingRequest}
 use Rattle.spec_net.specs.declared.pending.PendingRequest.TheVariants.{UdpReceive}
 use Rattle.spec_net.specs.declared.outcome.NetAnswer.TheVariants.{Now, Pends}
 use Rattle.spec_net.specs.PlainNet.{PlainNet, NetOutcome, greatest_point}
-use Rattle.spec_net.specs.Callers.{is_handler, caller, is_poll, is_nblk}
 use Rattle.spec_net.specs.Ports.{is_taken, port_for}
 use Rattle.spec_net.specs.Packets.{sent_packet}
 use Rattle.spec_net.specs.Receiving.{queue_of, without_oldest, count_code, receive_code, receive_bytes}
@@ -69,6 +70,12 @@ refusals net ctx (UdpRcvDat cep len tmo) =
     ∷ (nat_lt greatest_length len, E_PAR) ∷ (is_untold (get net.udp cep.0) tmo, E_PAR) ∷ (list_any (is_receive_at cep) net.calls, E_OBJ) ∷ []
 
 -- ---- what a call changes
+
+-- how long a request may wait; one that never waits has no time-out of its own
+abbrev pub timeout_of : NReq → Tmo
+timeout_of (UdpCreCep cep port cbr) = timeouts.Pol
+timeout_of (UdpSndDat cep dest load tmo) = tmo
+timeout_of (UdpRcvDat cep len tmo) = tmo
 
 -- the call is answered at once
 abbrev pub answered : PlainNet → Er → List ℕ → NetOutcome

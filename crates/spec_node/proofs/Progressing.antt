@@ -1,29 +1,29 @@
 -- What becomes of both parts of a node in an event: waking tasks whose network calls ended makes no call ready and no
 -- deadline past, so the kernel need not settle then; and after all ends by time no deadline is past.
-use Rattle.std.proofs.Common.{◌≡◌, ℕ, zero, suc, ◌+◌, ◌≤◌, List, [], ◌∷◌, length, Some, refl, inl, inr, arith}
+use Rattle.std.proofs.Common.{◌≡◌, ◌∙◌, ℕ, zero, suc, ◌≤◌, List, [], ◌∷◌, length, refl, inl, inr, arith}
 use Rattle.std.proofs.lemmas.Bool.{cases_Bool}
 use Rattle.std.proofs.lemmas.List.{nil_from_length}
 use Rattle.it_types.specs.declared.id.TaskId.{TaskId}
 use Rattle.it_types.specs.declared.id.CallNo.{CallNo}
 use Rattle.it_types.specs.declared.context.Ctx.{Ctx}
 use Rattle.it_types.specs.declared.network_request.NReq.{NReq}
+use Rattle.it_types.specs.Callers.{caller}
 use Rattle.spec_lists.proofs.Firsts.{cases_of_first, take_first-shorter}
 use Rattle.spec_kernel.specs.declared.wait.Wait.{Wait}
 use Rattle.spec_kernel.specs.declared.outcome.KEnd.{KEnd}
-use Rattle.spec_kernel.specs.declared.outcome.KAns.TheVariants.{Quiet}
-use Rattle.spec_kernel.specs.PlainKernel.{PlainKernel, nobody}
+use Rattle.spec_kernel.specs.PlainKernel.{PlainKernel}
 use Rattle.spec_kernel.specs.Settle.{Outcome, AtRest, woken}
-use Rattle.spec_kernel.specs.Deadlines.{NoneIsPast, is_next_past, next_past, end_by_time, ended_by_time}
+use Rattle.spec_kernel.specs.Deadlines.{NoneIsPast, next_past, ended_by_time, by_time}
 use Rattle.spec_kernel.specs.Outside.{unblocked, is_outside_of, outside_wait_of}
-use Rattle.spec_kernel.proofs.Settling.{settled_rests, settled-waits_le}
-use Rattle.spec_kernel.proofs.Timing.{next_past_none, due_none, due_some}
+use Rattle.spec_kernel.proofs.Settling.{settled_rests}
+use Rattle.spec_kernel.proofs.Timing.{next_past_none, due_none, due_some, ended_shorter}
 use Rattle.spec_kernel.proofs.OutsideWaits.{blocked_rests, blocked_none_past, unblocked_rests, unblocked_none_past}
 use Rattle.spec_net.specs.declared.outcome.NetEnd.{NetEnd}
 use Rattle.spec_net.specs.declared.outcome.NetAnswer.{NetAnswer}
 use Rattle.spec_net.specs.declared.outcome.NetAnswer.TheVariants as net_answers
 use Rattle.spec_net.specs.NetSettle.{NetAtRest}
 use Rattle.spec_net.specs.NetEnds.{ended}
-use Rattle.spec_net.specs.Callers.{caller, timeout_of}
+use Rattle.spec_net.specs.UdpRows.{timeout_of}
 use Rattle.spec_net.proofs.Settling.{ended_rests}
 use Rattle.spec_node.specs.Progress.{Progress, woken_by, after_end, after_ends, after_kernel, time_out, timed_out}
 use Rattle.spec_node.specs.NodeStep.{blocked_where}
@@ -44,6 +44,18 @@ unblocked-waits_le k task = elim (cases_of_first (outside_wait_of k task)) [
   | inl none ↦ rw none (omega arith)
   | inr some ↦ rw some.1 (omega (arith, take_first-shorter (is_outside_of task) k.waits some.0 some.1))
 ]
+
+unblocked_keeps : {X : Type 0} (part : PlainKernel → X) → ((k : PlainKernel) (w : Wait) (others : List Wait) → part (woken k w others) ≡ part k) → (k : PlainKernel) (task : TaskId) → part (unblocked k task).0 ≡ part k
+unfolding unblocked
+unblocked_keeps part kept k task = elim (cases_of_first (outside_wait_of k task)) [
+  | inl none ↦ rw none refl
+  | inr some ↦ rw some.1 (kept k some.0.0 some.0.1)
+]
+
+-- what waking a task keeps
+pub woken_by_keeps : {X : Type 0} (part : PlainKernel → X) → ((k : PlainKernel) (w : Wait) (others : List Wait) → part (woken k w others) ≡ part k) → (k : PlainKernel) (es : List NetEnd) → part (woken_by k es) ≡ part k
+woken_by_keeps part kept k [] = refl
+woken_by_keeps part kept k (e ∷ es) = woken_by_keeps part kept (unblocked k e.who).0 es ∙ unblocked_keeps part kept k e.who
 
 -- no call waits that didn't
 pub woken_by-waits_le : (k : PlainKernel) (es : List NetEnd) → length (woken_by k es).waits ≤ length k.waits
@@ -110,14 +122,6 @@ unfolding after_kernel
 after_kernel-waits_le p o = after_ends-waits_le (record p { kernel = o.kernel }) o.ends
 
 -- ---- ends by time
-
--- the row of an end by time
-abbrev by_time : PlainKernel → Wait × List Wait → Outcome
-by_time k x = record { kernel = woken k x.0 x.1; answer = Quiet; ends = end_by_time x.0 ∷ []; gone = nobody; begun = nobody }
-
--- an end takes one call at least
-ended_shorter : (k : PlainKernel) (x : Wait × List Wait) → next_past k ≡ Some x → length (ended_by_time k x).kernel.waits + 1 ≤ length k.waits
-ended_shorter k x e = omega (arith, settled-waits_le (by_time k x), take_first-shorter (is_next_past k.now k.waits) k.waits x e)
 
 -- after as many turns as calls wait, no deadline is past
 time_out_none_past : (n : ℕ) (p : Progress) → length p.kernel.waits ≤ n → NoneIsPast (time_out n p).kernel

@@ -11,16 +11,16 @@ use Rattle.it_types.specs.declared.mark.Mark.{Mark}
 use Rattle.it_types.specs.declared.mark.Mark.TheVariants as marks
 use Rattle.it_types.specs.declared.entry.CallEnd.{CallEnd}
 use Rattle.it_types.specs.declared.entry.Out.{Out}
+use Rattle.it_types.specs.Callers.{caller, nobody}
 use Rattle.spec_lists.specs.Tables.{get}
 use Rattle.spec_kernel.specs.declared.outcome.KAns.{KAns}
 use Rattle.spec_kernel.specs.declared.outcome.KAns.TheVariants as kernel_answers
-use Rattle.spec_kernel.specs.PlainKernel.{PlainKernel, nobody}
+use Rattle.spec_kernel.specs.PlainKernel.{PlainKernel}
 use Rattle.spec_kernel.specs.Rows.{call, tick}
 use Rattle.spec_kernel.specs.Outside.{blocked}
 use Rattle.spec_net.specs.declared.outcome.NetAnswer.{NetAnswer}
 use Rattle.spec_net.specs.declared.outcome.NetAnswer.TheVariants as net_answers
-use Rattle.spec_net.specs.Callers.{caller, timeout_of}
-use Rattle.spec_net.specs.UdpRows.{net_call}
+use Rattle.spec_net.specs.UdpRows.{net_call, timeout_of}
 use Rattle.spec_net.specs.Arrival.{arrive}
 use Rattle.spec_node.specs.declared.held.Held.{Held}
 use Rattle.spec_node.specs.declared.event.NodeRequest.{NodeRequest}

@@ -1,4 +1,5 @@
--- What a script keeps: its ranges, one declaration for each id of a kind, and the lines that can be written today.
+-- What a script keeps: its ranges, one declaration for each id of a kind, and the lines that can be written today. It is this
+-- project's own.
 use Rattle.std.specs.Prelude.{◌≡◌, ◌≢◌, ℕ, Bool, true, false, not, ◌&&◌, List, [], ◌∷◌, ◌++◌, length, Option, Some, None, nat_le, nat_lt, ◌==◌}
 use Rattle.std.specs.List.{list_all, list_any}
 use Rattle.it_types.specs.declared.id.EndPt.{EndPt}

@@ -1,4 +1,4 @@
--- Which script a text is read as.
+-- Which script a text is read as, which is this project's own.
 use Rattle.std.specs.Prelude.{◌≡◌, ℕ, Bool, true, not, List, [], ◌∷◌, ◌++◌, ◌==◌, if◌then◌else◌, filter}
 use Rattle.std.specs.List.{flat_map}
 use Rattle.spec_script.specs.declared.script.Script.{Script}

@@ -96,9 +96,6 @@ code c = answers.Now (record { 0 = c }) []
 abbrev pub pends : ℕ → Ans
 pends number = answers.Pends (record { 0 = number })
 
-abbrev pub code_with : ℤ → List ℕ → Ans
-code_with c bytes = answers.Now (record { 0 = c }) bytes
-
 abbrev pub end_with : ℕ → ℤ → List ℕ → CallEnd
 end_with number c bytes = record { call = record { 0 = number }; code = record { 0 = c }; bytes = bytes }
 

@@ -1,5 +1,7 @@
 -- A history under way: when it goes on, and what the play keeps of it.
 use Rattle.std.proofs.Common.{◌≡◌, ℕ, zero, suc, ◌+◌, ◌-◌, ◌<◌, Bool, true, false, not, List, [], ◌∷◌, ◌++◌, length, refl, sym, ap, ◌∙◌, append_assoc, inl, inr, arith}
+use Rattle.spec_world.specs.PlainWorld.{step}
+use Rattle.it_types.specs.declared.event.Event.{Event}
 use Rattle.std.specs.Prelude.{nat_le, sum_by}
 use Rattle.std.proofs.lemmas.Bool.{cases_Bool, leb-true}
 use Rattle.std.proofs.lemmas.List.Sums.{sum_by-append}
@@ -35,6 +37,10 @@ pub run_more : (n : ℕ) (plan : Plan) (p : PlainPlay)
     → run (suc n) plan p ≡ (after plan p (next plan p)).1 ∷ rest (not (is_stop (next plan p))) n plan (after plan p (next plan p)).0
 unfolding run
 run_more n plan p f = rw (f, run) (ap (λ (es : List Entry). (after plan p (next plan p)).1 ∷ es) (stop_or_not (is_stop (next plan p)) (run n plan (after plan p (next plan p)).0)))
+
+pub after-entry : (plan : Plan) (p : PlainPlay) (event : Event) → (after plan p event).1 ≡ (step p.world event).1
+unfolding after
+after-entry plan p event = refl
 
 -- ---- sizes
 

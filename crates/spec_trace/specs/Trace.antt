@@ -4,6 +4,9 @@ use Rattle.std.specs.Prelude.{ℕ, Bool, true, false, List, [], ◌∷◌, ◌++
 use Rattle.std.specs.List.{flat_map}
 use Rattle.std.specs.Fmt.{signed_decimal}
 use Rattle.hex.specs.Hex.{encode_lower}
+use Rattle.it_types.specs.declared.id.ObjId.{ObjId}
+use Rattle.it_types.specs.declared.id.CepId.{CepId}
+use Rattle.it_types.specs.declared.er.Er.{Er}
 use Rattle.it_types.specs.declared.context.Ctx.{Ctx}
 use Rattle.it_types.specs.declared.context.Ctx.TheVariants as contexts
 use Rattle.it_types.specs.declared.event.Event.{Event}
@@ -77,10 +80,14 @@ event_text events.Stop = codes "stop"
 abbrev pub end_text : CallEnd → List ℕ
 end_text e = codes " end " ++ (decimal e.call.0 ++ (codes " " ++ (signed_decimal e.code.0 ++ (bytes_text e.bytes ++ codes "\n"))))
 
+-- a callback routine, the end point and the function that it is told of, and the function's code
+abbrev pub told_text : ObjId → Bool → CepId → FnCode → Er → List ℕ
+told_text cbr udp cep func code =
+    decimal cbr.0 ++ (codes " " ++ (protocol_text udp ++ (codes " " ++ (decimal cep.0 ++ (codes " " ++ (function_text func ++ (codes " " ++ signed_decimal code.0)))))))
+
 abbrev pub handler_text : Handler → List ℕ
 handler_text (handlers.Cyc cyc) = codes "cyc " ++ decimal cyc.0
-handler_text (handlers.Cbr cbr udp cep func code bytes) =
-    codes "cbr " ++ (decimal cbr.0 ++ (codes " " ++ (protocol_text udp ++ (codes " " ++ (decimal cep.0 ++ (codes " " ++ (function_text func ++ (codes " " ++ (signed_decimal code.0 ++ bytes_text bytes)))))))))
+handler_text (handlers.Cbr cbr udp cep func code bytes) = codes "cbr " ++ (told_text cbr udp cep func code ++ bytes_text bytes)
 
 abbrev pub lease_text : ℕ → Dir → ℕ → ℕ → List ℕ
 lease_text cep dir from len = decimal cep ++ (codes " " ++ (direction_text dir ++ (codes " " ++ (decimal from ++ (codes " " ++ decimal len)))))
@@ -96,8 +103,7 @@ mark_words (marks.Broken cep) = codes " broken " ++ decimal cep.0
 mark_words (marks.Over cep) = codes " over " ++ decimal cep.0
 mark_words (marks.Lent cep dir from len) = codes " lent " ++ lease_text cep.0 dir from len
 mark_words (marks.Back cep dir from len) = codes " back " ++ lease_text cep.0 dir from len
-mark_words (marks.Callback cbr udp cep func code) =
-    codes " callback " ++ (decimal cbr.0 ++ (codes " " ++ (protocol_text udp ++ (codes " " ++ (decimal cep.0 ++ (codes " " ++ (function_text func ++ (codes " " ++ signed_decimal code.0))))))))
+mark_words (marks.Callback cbr udp cep func code) = codes " callback " ++ told_text cbr udp cep func code
 mark_words (marks.Run task) = codes " run " ++ decimal task.0
 
 abbrev pub mark_text : Mark → List ℕ

@@ -1,11 +1,11 @@
 -- What is written is read again, with the time to live that is written.
-use Rattle.std.proofs.Common.{◌≡◌, ℕ, ◌+◌, ◌-◌, ◌*◌, ◌/◌, ◌%◌, ◌<◌, ◌≤◌, List, ◌∷◌, ◌++◌, length, take, drop, sum, refl, sym, ap, ◌∙◌, arith, lit≤, length-append}
+use Rattle.std.proofs.Common.{◌≡◌, ℕ, ◌+◌, ◌-◌, ◌<◌, ◌≤◌, List, ◌∷◌, ◌++◌, length, take, drop, sum, refl, sym, ap, ◌∙◌, arith, lit≤, length-append}
 use Rattle.std.proofs.lemmas.List.Sums.{sum_by-cons}
 use Rattle.std.proofs.Math.Seq.{take-append_seam}
 use Rattle.spec_wire.specs.Octets.{u32_octets}
 use Rattle.spec_wire.specs.Sum.{words, ones_sum}
 use Rattle.spec_wire.specs.Ipv4.{Ipv4, Reads, IsWritable, header, header_sum_of, total_length_of, written, checksum_of}
-use Rattle.spec_wire.proofs.SumLaws.{AreWords, ones_sum-checksum}
+use Rattle.spec_wire.proofs.SumLaws.{AreWords, ones_sum-checksum, u16_again}
 
 -- the words of the header before its checksum, and after it
 abbrev words_before : Ipv4 → List ℕ
@@ -13,9 +13,6 @@ words_before d = take 5 (words (header d 0))
 
 abbrev words_after : Ipv4 → List ℕ
 words_after d = words (u32_octets d.src ++ u32_octets d.dst)
-
-u16_again : (n : ℕ) → n ≤ 65535 → n / 256 % 256 * 256 + n % 256 ≡ n
-u16_again n h = omega arith
 
 header_sum : (d : Ipv4) (rest : List ℕ) → IsWritable d → header_sum_of (written d ++ rest) ≡ 65535
 unfolding written

@@ -1,6 +1,6 @@
 -- Bytes are read as one datagram, and refused exactly where they are read as none.
-use Rattle.std.proofs.Common.{◌≡◌, ℕ, Bool, true, false, ◌||◌, List, None, refl}
-use Rattle.std.proofs.lemmas.Bool.{eqb-true, eq-eqb, le-ltb, ltb-false, not-false}
+use Rattle.std.proofs.Common.{◌≡◌, ℕ, false, List, None, refl}
+use Rattle.std.proofs.lemmas.Bool.{eqb-true, eq-eqb, le-ltb, ltb-false, not-false, or_parts}
 use Rattle.spec_lists.proofs.Refusing.{none_holds}
 use Rattle.spec_wire.specs.Ipv4.{Ipv4, Reads, fields_of, refusal, refusals, is_short}
 
@@ -25,10 +25,6 @@ reads_unrefused bytes d h =
     let more = eq-eqb _ _ h.more_fragments in
     rw (short, version, header, total, whole, checksum, offset, more) refl
 
-both_false : (a b : Bool) → (a || b) ≡ false → (a ≡ false) × (b ≡ false)
-both_false true b h = absurd cc
-both_false false b h = (refl, h)
-
 -- bytes that are not refused are read
 pub reads_otherwise : (bytes : List ℕ)
     → refusal bytes ≡ None
@@ -36,9 +32,9 @@ pub reads_otherwise : (bytes : List ℕ)
 unfolding refusal
 reads_otherwise bytes h =
     let passed = none_holds (refusals bytes) h in
-    let lengths = both_false _ _ passed.1.1.0 in
-    let total = both_false _ _ lengths.1 in
-    let fragment = both_false _ _ passed.1.1.1.1.0 in
+    let lengths = or_parts _ _ passed.1.1.0 in
+    let total = or_parts _ _ lengths.1 in
+    let fragment = or_parts _ _ passed.1.1.1.1.0 in
     record {
       size = ltb-false _ _ passed.0;
       version = eqb-true _ _ (not-false _ passed.1.0);

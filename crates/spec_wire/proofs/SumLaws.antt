@@ -1,8 +1,6 @@
 -- The laws of the one's complement sum: it is the whole sum, folded, so neither the order of the words nor the moment of
 -- folding matters.
 use Rattle.std.proofs.Common.{◌≡◌, ℕ, zero, suc, ◌+◌, ◌-◌, ◌*◌, ◌/◌, ◌%◌, ◌<◌, ◌≤◌, List, [], ◌∷◌, ◌++◌, length, sum, refl, sym, ap, ◌∙◌, arith, lit≤}
-use Rattle.std.specs.Prelude.{IsPermutation}
-use Rattle.std.proofs.lemmas.List.Sorted.{sum_by-IsPermutation}
 use Rattle.std.proofs.lemmas.List.Sums.{sum_by-cons, sum_by-append}
 use Rattle.spec_wire.specs.Octets.{AreOctets}
 use Rattle.spec_wire.specs.Sum.{words, end_around, ones_sum, ones_complement, folded}
@@ -42,7 +40,7 @@ ones_sum-folded [] h = refl
 ones_sum-folded (w ∷ ws) h =
     ap (end_around w) (ones_sum-folded ws h.1) ∙ end_around-folded w (sum ws) h.0 ∙ ap folded (sym (sum_by-cons (λ x. x) w ws))
 
--- the order of the words does not matter, nor where a list of them is cut
+-- where a list of words is cut does not matter
 pub ones_sum-append : (xs ys : List ℕ) → AreWords xs → AreWords ys → ones_sum (xs ++ ys) ≡ end_around (ones_sum xs) (ones_sum ys)
 unfolding ones_sum
 ones_sum-append [] ys hx hy = let below = folded_bound (sum ys) in let same = ones_sum-folded ys hy in omega arith
@@ -52,8 +50,9 @@ ones_sum-append (x ∷ xs) ys hx hy =
     let b = ones_sum-folded ys hy in
     omega (arith, folded_bound (sum xs), folded_bound (sum ys), rest)
 
-pub tail_octets : (b : ℕ) (bytes : List ℕ) → AreOctets (b ∷ bytes) → AreOctets bytes
-tail_octets b bytes octets i = octets (suc i)
+-- the two octets of a word make it again
+pub u16_again : (n : ℕ) → n ≤ 65535 → n / 256 % 256 * 256 + n % 256 ≡ n
+u16_again n h = omega arith
 
 -- octets make words
 pub words_fit : (bytes : List ℕ) → AreOctets bytes → AreWords (words bytes)
@@ -84,11 +83,6 @@ ones_sum-checksum front back hf hb some =
     let plain : s ≡ folded n = with_word 0 (omega arith) ∙ ap folded (omega arith) in
     let word : 65535 - s ≤ 65535 = omega arith in
     with_word (ones_complement s) word ∙ ap (λ (t : ℕ). folded (n + ones_complement t)) plain ∙ folded_complemented n some
-
--- the order of the words does not matter
-pub ones_sum_any_order : (xs ys : List ℕ) → IsPermutation xs ys → AreWords xs → AreWords ys → ones_sum xs ≡ ones_sum ys
-ones_sum_any_order xs ys same hx hy =
-    ones_sum-folded xs hx ∙ ap folded (sym (sum_by-IsPermutation (λ x. x) xs ys same)) ∙ sym (ones_sum-folded ys hy)
 
 -- the words of an even number of octets, and of more behind them
 pub words-append : (n : ℕ) (xs ys : List ℕ) → length xs ≡ n + n → words (xs ++ ys) ≡ words xs ++ words ys

@@ -1,6 +1,6 @@
 -- Bytes are read as one user datagram, and refused exactly where they are read as none.
-use Rattle.std.proofs.Common.{◌≡◌, ℕ, Bool, true, false, not, ◌||◌, ◌&&◌, ◌==◌, List, None, refl, inl, inr, ◌⊎◌}
-use Rattle.std.proofs.lemmas.Bool.{eqb-true, eq-eqb, le-ltb, ltb-false}
+use Rattle.std.proofs.Common.{◌≡◌, ℕ, Bool, true, false, not, ◌&&◌, ◌==◌, List, None, refl, inl, inr, ◌⊎◌}
+use Rattle.std.proofs.lemmas.Bool.{eqb-true, eq-eqb, le-ltb, ltb-false, or_parts}
 use Rattle.spec_lists.proofs.Refusing.{none_holds}
 use Rattle.spec_wire.specs.Udp.{UserDatagram, Reads, fields_of, refusal, refusals, is_short, is_wrong_sum, checksum_field_of, sum_of, datagram_of}
 
@@ -44,10 +44,6 @@ reads_unrefused src dst bytes u h =
     let checksum : is_wrong_sum src dst bytes ≡ false = unequal _ _ _ _ h.checksum in
     rw (short, header, whole, checksum) refl
 
-both_false : (a b : Bool) → (a || b) ≡ false → (a ≡ false) × (b ≡ false)
-both_false true b h = absurd cc
-both_false false b h = (refl, h)
-
 -- bytes that are not refused are read
 pub reads_otherwise : (src dst : ℕ) (bytes : List ℕ)
     → refusal src dst bytes ≡ None
@@ -55,7 +51,7 @@ pub reads_otherwise : (src dst : ℕ) (bytes : List ℕ)
 unfolding refusal
 reads_otherwise src dst bytes h =
     let passed = none_holds (refusals src dst bytes) h in
-    let lengths = both_false _ _ passed.1.0 in
+    let lengths = or_parts _ _ passed.1.0 in
     record {
       size = ltb-false _ _ passed.0;
       header = ltb-false _ _ lengths.0;

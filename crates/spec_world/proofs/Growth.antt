@@ -1,5 +1,6 @@
 -- Each event draws at most one call number, ticks a node's clock at most once, and sends at most one packet.
 use Rattle.std.proofs.Common.{◌≡◌, ℕ, zero, suc, ◌+◌, ◌≤◌, List, [], ◌∷◌, ◌++◌, length, Option, Some, None, refl, ap, ◌∙◌, inl, inr, arith}
+use Rattle.spec_node.proofs.Progressing.{woken_by_keeps}
 use Rattle.std.proofs.lemmas.Bool.{cases_Bool}
 use Rattle.std.proofs.lemmas.List.{append-nil}
 use Rattle.it_types.specs.declared.id.TaskId.{TaskId}
@@ -14,17 +15,16 @@ use Rattle.it_types.specs.declared.network_request.NReq.{NReq}
 use Rattle.it_types.specs.declared.network_request.NReq.TheVariants.{UdpCreCep, UdpSndDat, UdpRcvDat}
 use Rattle.it_types.specs.declared.entry.Out.{Out}
 use Rattle.it_types.specs.declared.timeout.Tmo.{Tmo}
+use Rattle.it_types.specs.Callers.{caller, is_poll}
 use Rattle.spec_lists.proofs.Firsts.{cases_of_first}
 use Rattle.spec_lists.specs.Refusal.{first_refusal}
 use Rattle.spec_lists.specs.Tables.{get}
 use Rattle.spec_kernel.specs.declared.outcome.KEnd.{KEnd}
 use Rattle.spec_kernel.specs.declared.wait.Wait.{Wait}
-use Rattle.spec_kernel.specs.declared.outcome.KAns.TheVariants.{Quiet}
-use Rattle.spec_kernel.specs.PlainKernel.{PlainKernel, nobody}
-use Rattle.spec_kernel.specs.Settle.{Outcome, settled, woken}
-use Rattle.spec_kernel.specs.Deadlines.{next_past, end_by_time, ended_by_time}
+use Rattle.spec_kernel.specs.PlainKernel.{PlainKernel}
+use Rattle.spec_kernel.specs.Settle.{Outcome, settled}
+use Rattle.spec_kernel.specs.Deadlines.{next_past, ended_by_time, by_time}
 use Rattle.spec_kernel.specs.Rows.{call, tick, ticked, quiet}
-use Rattle.spec_kernel.specs.Outside.{unblocked, outside_wait_of}
 use Rattle.spec_kernel.proofs.Settling.{call-now, settled-now}
 use Rattle.spec_kernel.proofs.Timing.{next_past_none, due_none, due_some}
 use Rattle.spec_net.specs.declared.point.Received.{Received}
@@ -35,7 +35,6 @@ use Rattle.spec_net.specs.declared.outcome.NetAnswer.{NetAnswer}
 use Rattle.spec_net.specs.declared.outcome.NetAnswer.TheVariants as net_answers
 use Rattle.spec_net.specs.declared.outcome.NetEnd.{NetEnd}
 use Rattle.spec_net.specs.PlainNet.{PlainNet, NetOutcome}
-use Rattle.spec_net.specs.Callers.{is_poll, caller}
 use Rattle.spec_net.specs.Receiving.{queue_of}
 use Rattle.spec_net.specs.NetSettle.{net_settled}
 use Rattle.spec_net.specs.UdpRows.{refusals, accepted, received, carried_out, unless_refused, row, net_call}
@@ -58,16 +57,8 @@ drawn_le answers.Quiet = omega arith
 
 -- ---- clocks
 
-unblocked-now : (k : PlainKernel) (task : TaskId) → (unblocked k task).0.now ≡ k.now
-unfolding unblocked
-unblocked-now k task = elim (cases_of_first (outside_wait_of k task)) [
-  | inl none ↦ rw none refl
-  | inr some ↦ rw some.1 refl
-]
-
 woken_by-now : (k : PlainKernel) (es : List NetEnd) → (woken_by k es).now ≡ k.now
-woken_by-now k [] = refl
-woken_by-now k (e ∷ es) = woken_by-now (unblocked k e.who).0 es ∙ unblocked-now k e.who
+woken_by-now k es = woken_by_keeps (λ (k : PlainKernel). k.now) (λ k w others. refl) k es
 
 blocked_where-now : (answer : NetAnswer) (k : PlainKernel) (ctx : Ctx) (request : NReq) (number : CallNo) → (blocked_where answer k ctx request number).now ≡ k.now
 blocked_where-now net_answers.Pends k ctx request number = refl
@@ -153,9 +144,6 @@ turn_stays p z = record {
   now = after_kernel-now p (ended_by_time p.kernel z) ∙ settled-now (by_time p.kernel z);
   packets = after_kernel-packets p (ended_by_time p.kernel z);
 }
-  where
-    by_time : PlainKernel → Wait × List Wait → Outcome
-    by_time k x = record { kernel = woken k x.0 x.1; answer = Quiet; ends = end_by_time x.0 ∷ []; gone = nobody; begun = nobody }
 
 time_out_stays : (n : ℕ) (p : Progress) → Stays p (time_out n p)
 unfolding time_out

@@ -1,5 +1,6 @@
 -- The loop over the events of a script.
 use Rattle.std.proofs.Common.{◌≡◌, ℕ, ◌+◌, ◌-◌, ◌<◌, Bool, true, false, not, List, [], ◌∷◌, ◌++◌, length, refl, sym, ap, ◌∙◌, inl, inr, arith}
+use Rattle.std.proofs.Math.Bool.{not-not}
 use mathlib.Core.Logic.{◌⊎◌}
 use Rattle.std.proofs.lemmas.List.{append-nil, length-append}
 use Rattle.it_types.specs.declared.event.Event.{Event}
@@ -14,7 +15,7 @@ use Rattle.spec_world.proofs.Appending.{stops_more}
 use Rattle.spec_world.proofs.Counts.{room_short}
 use Rattle.spec_sim.specs.Schedule.{Plan, PlainPlay, plan_of, first_places, next, after}
 use Rattle.spec_sim.specs.Serial.{run, serial}
-use Rattle.spec_sim.proofs.Underway.{rest, one_more, full_whole}
+use Rattle.spec_sim.proofs.Underway.{rest, one_more, full_whole, after-entry}
 use Rattle.w_sim.specs.Playing.{Playing, GoesOn, play_of, moved}
 use Rattle.w_sim.proofs.Stepping.{moved_play}
 
@@ -31,14 +32,6 @@ begins s p e = rw e (record { conf = refl; lives = refl; ends = refl; whole = re
 pub goes_on : (s : Script) (p : Playing) → IsSoFar s true p → is_full p.history.log ≡ false → GoesOn p.history
 goes_on s p h room = record { lives = h.lives; going = h.ends; room = room }
 
-after_given : (plan : Plan) (p : PlainPlay) (event : Event) → (after plan p event).1 ≡ (step p.world event).1
-unfolding after
-after_given plan p event = refl
-
-twice_not : (b : Bool) → b ≡ not (not b)
-twice_not true = refl
-twice_not false = refl
-
 -- the history with the entry of the next event
 whole_more : (whole : List Entry) (plan : Plan) (p : Playing) (event : Event)
     → is_full p.history.log ≡ false
@@ -52,7 +45,7 @@ whole_more whole plan p event room e so_far =
     let left : length (log ++ one ∷ []) ≡ length log + 1 = length-append log (one ∷ []) in
     ap (λ (r : PlainPlay). (log ++ one ∷ []) ++ rest (not (is_stop event)) (entry_limit - length (log ++ one ∷ [])) plan r) (moved_play plan p event)
     ∙ ap (λ (n : ℕ). (log ++ one ∷ []) ++ rest (not (is_stop event)) (entry_limit - n) plan q) left
-    ∙ ap (λ (x : Entry). (log ++ x ∷ []) ++ rest (not (is_stop event)) (entry_limit - (length log + 1)) plan q) (sym (after_given plan (play_of p) event))
+    ∙ ap (λ (x : Entry). (log ++ x ∷ []) ++ rest (not (is_stop event)) (entry_limit - (length log + 1)) plan q) (sym (after-entry plan (play_of p) event))
     ∙ ap (λ (v : Event). (log ++ (after plan (play_of p) v).1 ∷ []) ++ rest (not (is_stop v)) (entry_limit - (length log + 1)) plan (after plan (play_of p) v).0) e
     ∙ one_more whole log plan (play_of p) room refl so_far
 
@@ -65,7 +58,7 @@ pub steps : (s : Script) (p q : Playing) (event : Event)
 steps s p q event h room e to = rw to (record {
   conf = h.conf;
   lives = h.lives;
-  ends = stops_more p.history.log (step (world_of p.history) event).1 ∙ ap is_stop (step-ev (world_of p.history) event) ∙ twice_not (is_stop event);
+  ends = stops_more p.history.log (step (world_of p.history) event).1 ∙ ap is_stop (step-ev (world_of p.history) event) ∙ sym (not-not (is_stop event));
   whole = whole_more (serial s) (plan_of s) p event room e h.whole;
 })
 

@@ -5,8 +5,6 @@ mod body;
 mod history;
 mod places;
 mod play;
-#[cfg(test)]
-mod tests;
 mod turn;
 
 pub use history::sim;

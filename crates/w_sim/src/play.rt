@@ -9,7 +9,7 @@ ghost use Rattle.w_sim.specs.Playing.{GoesOn, moved, play_of};
 
 use crate::places::move_after;
 use crate::turn::task_event;
-use it_types::{Event, NoMemory, NodeId, PackNo};
+use it_types::{Event, NoMemory, NodeId, PackNo, TABLE_PLACES};
 use n_node::Node;
 use s_script::conf_of;
 use spec_script::{Decl, Script};
@@ -33,9 +33,6 @@ impl Model for Play {
 
     ghost view = { λ p. record { history = p.world; first = p.first.items; second = p.second.items; delivered = p.delivered } };
 }
-
-/// The places of a node's tasks: ids are from 1 to 16.
-const TASK_PLACES: usize = 17;
 
 fn first_decls(script: &Script) -> &[Decl]
     ensures { result.now ≡ (first_node script.now).decls }
@@ -81,8 +78,8 @@ impl Play {
         let conf = conf_of(alloc, script)?;
         Ok(Play {
             world: World::open(alloc, &conf)?,
-            first: vec![in alloc; 0; TASK_PLACES]?,
-            second: vec![in alloc; 0; TASK_PLACES]?,
+            first: vec![in alloc; 0; TABLE_PLACES]?,
+            second: vec![in alloc; 0; TABLE_PLACES]?,
             delivered: 0,
         })
     }

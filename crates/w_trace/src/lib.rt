@@ -7,6 +7,3 @@ mod print;
 mod words;
 
 pub use print::print_into;
-
-#[cfg(test)]
-mod tests;

@@ -1,7 +1,7 @@
 ghost use Rattle.std.specs.Prelude.{◌≡◌, ◌++◌, OnOk, codes, decimal};
 ghost use Rattle.std.specs.Fmt.{signed_decimal};
 ghost use Rattle.it_types.specs.Address.{end_point_text};
-ghost use Rattle.spec_trace.specs.Trace.{bytes_text, function_text, handler_text, lease_text, mark_text, mark_words, protocol_text};
+ghost use Rattle.spec_trace.specs.Trace.{function_text, handler_text, lease_text, mark_text, mark_words, protocol_text, told_text};
 
 use crate::words::{direction_word, function_word, protocol_word, put_bytes, put_code};
 use it_types::words::{put_end_point, put_number, put_numbered, put_word};
@@ -32,20 +32,20 @@ fn put_function_and_code(out: &mut Vec<u8>, function: FnCode, code: Er) -> Resul
     put_code(out, b" ", code)
 }
 
-fn put_routine_handler(
+// The word, a callback routine, and what it is told of.
+fn put_told(
     out: &mut Vec<u8>,
+    word: &[u8],
     cbr: ObjId,
     udp: bool,
     cep: CepId,
     function: FnCode,
     code: Er,
-    bytes: &[u8],
 ) -> Result<(), NoMemory>
-    ensures { OnOk result (out.new.items ≡ out.old.items ++ (codes "cbr " ++ (decimal cbr.0 ++ (codes " " ++ (protocol_text udp ++ (codes " " ++ (decimal cep.0 ++ (codes " " ++ (function_text function ++ (codes " " ++ (signed_decimal code.0 ++ bytes_text bytes.now))))))))))) }
+    ensures { OnOk result (out.new.items ≡ out.old.items ++ (word.now ++ told_text cbr udp cep function code)) }
 {
-    put_routine(out, b"cbr ", cbr, udp, cep)?;
-    put_function_and_code(out, function, code)?;
-    put_bytes(out, bytes)
+    put_routine(out, word, cbr, udp, cep)?;
+    put_function_and_code(out, function, code)
 }
 
 fn put_handler(out: &mut Vec<u8>, handler: &Handler) -> Result<(), NoMemory>
@@ -60,7 +60,10 @@ fn put_handler(out: &mut Vec<u8>, handler: &Handler) -> Result<(), NoMemory>
             func,
             code,
             bytes,
-        } => put_routine_handler(out, *cbr, *udp, *cep, *func, *code, bytes.as_slice()),
+        } => {
+            put_told(out, b"cbr ", *cbr, *udp, *cep, *func, *code)?;
+            put_bytes(out, bytes.as_slice())
+        }
     }
 }
 
@@ -112,20 +115,6 @@ fn put_lease(
     put_numbered(out, b" ", len)
 }
 
-fn put_callback(
-    out: &mut Vec<u8>,
-    cbr: ObjId,
-    udp: bool,
-    cep: CepId,
-    function: FnCode,
-    code: Er,
-) -> Result<(), NoMemory>
-    ensures { OnOk result (out.new.items ≡ out.old.items ++ (codes " callback " ++ (decimal cbr.0 ++ (codes " " ++ (protocol_text udp ++ (codes " " ++ (decimal cep.0 ++ (codes " " ++ (function_text function ++ (codes " " ++ signed_decimal code.0)))))))))) }
-{
-    put_routine(out, b" callback ", cbr, udp, cep)?;
-    put_function_and_code(out, function, code)
-}
-
 fn put_mark_words(out: &mut Vec<u8>, mark: &Mark) -> Result<(), NoMemory>
     ensures { OnOk result (out.new.items ≡ out.old.items ++ mark_words mark.now) }
 {
@@ -160,7 +149,7 @@ fn put_mark_words(out: &mut Vec<u8>, mark: &Mark) -> Result<(), NoMemory>
             cep,
             func,
             code,
-        } => put_callback(out, *cbr, *udp, *cep, *func, *code),
+        } => put_told(out, b" callback ", *cbr, *udp, *cep, *func, *code),
         Mark::Run { task } => put_numbered(out, b" run ", task.0),
     }
 }

@@ -1,8 +1,8 @@
 -- What a world keeps, from its opening and in each step.
-use Rattle.std.proofs.Common.{◌≡◌, ℕ, ◌+◌, ◌≤◌, Bool, true, false, not, List, [], ◌∷◌, ◌++◌, length, map, None, refl, ap, sym, ◌∙◌, arith}
+use Rattle.std.proofs.Common.{◌≡◌, ℕ, ◌+◌, ◌≤◌, Bool, true, false, List, [], ◌∷◌, ◌++◌, length, map, None, ap, sym, ◌∙◌, arith}
+use Rattle.std.proofs.lemmas.Bool.{not-false}
 use Rattle.std.specs.Prelude.{sum_by}
 use Rattle.std.proofs.lemmas.List.{length-append, length-map}
-use Rattle.std.proofs.lemmas.List.Elements.{All-nil}
 use Rattle.std.proofs.lemmas.List.Sums.{sum_by_push}
 use Rattle.it_types.specs.declared.id.NodeId.{NodeId}
 use Rattle.it_types.specs.declared.event.Event.{Event}
@@ -19,23 +19,13 @@ use Rattle.spec_world.proofs.Counts.{within_length, room_short}
 use Rattle.w_world.specs.declared.sent.Sent.{Sent}
 use Rattle.w_world.specs.Capped.{capped}
 use Rattle.w_world.specs.Room.{HaveRoom}
-use Rattle.w_world.specs.Sending.{packet_in, packets_in, world_in, IsWithin, places_from}
+use Rattle.w_world.specs.Sending.{packet_in, packets_in, world_in, places_from}
 use Rattle.w_world.specs.Takes.{Takes}
 use Rattle.w_world.specs.Kept.{GoesOn, Kept}
 use Rattle.w_world.proofs.Places.{packets_more, places_within}
 
 abbrev pub history : Conf → List Entry → Bool → History
 history conf log ended = record { conf = conf; log = log; ended = ended }
-
--- ---- the opening
-
-pub kept_opening : (conf : Conf) (nodes : Nodes) → nodes ≡ (opened_world conf).nodes → Kept conf nodes [] [] 0 0 false
-kept_opening conf nodes e = record {
-  run = tt;
-  count = refl;
-  bytes = refl;
-  goes_on = λ _. record { state = ap (λ (n : Nodes). record { nodes = n; packets = [] }) e; places = All-nil (IsWithin []) };
-}
 
 -- ---- an event that nothing refuses
 
@@ -45,14 +35,10 @@ pub record IsFree (h : History) (event : Event) : Type 0 where
   pub room : is_full h.log ≡ false
   pub admitted : is_admitted (world_of h) event ≡ true
 
-true_of : (b : Bool) → not b ≡ false → b ≡ true
-true_of true e = refl
-true_of false e = cc
-
 pub free : (h : History) (event : Event) → refusal h event ≡ None → IsFree h event
 free h event e =
     let tests = none_holds (refusals h event) e in
-    record { on = tests.0; going = tests.1.0; room = tests.1.1.0; admitted = true_of (is_admitted (world_of h) event) tests.1.1.1.1.0 }
+    record { on = tests.0; going = tests.1.0; room = tests.1.1.0; admitted = not-false (is_admitted (world_of h) event) tests.1.1.1.1.0 }
 
 module _ (conf : Conf) (nodes : Nodes) (log : List Entry) (sent : List Sent) (packets size : ℕ) (ended : Bool) (event : Event) (kept : Kept conf nodes log sent packets size ended) (none : refusal (history conf log ended) event ≡ None) where
   is_free : IsFree (history conf log ended) event
@@ -126,8 +112,3 @@ module _ (conf : Conf) (nodes : Nodes) (log : List Entry) (sent : List Sent) (pa
     is_stepped log_after l =
         ap (λ (es : List Entry). history conf es false) (l ∙ ap (λ (r : PlainWorld × Entry). log ++ r.1 ∷ []) (sym given))
         ∙ ap (history conf (log ++ (step (after (opened_world conf) log) event).1 ∷ [])) (sym is_free.on)
-
--- ---- memory that ran out
-
-pub kept_ended : (conf : Conf) (nodes nodes_after : Nodes) (log : List Entry) (sent sent_after : List Sent) (packets size : ℕ) (ended : Bool) → Kept conf nodes log sent packets size ended → Kept conf nodes_after log sent_after packets size true
-kept_ended conf nodes nodes_after log sent sent_after packets size ended kept = record { run = kept.run; count = kept.count; bytes = kept.bytes; goes_on = λ e. absurd cc }

@@ -1,5 +1,5 @@
-ghost use Rattle.std.specs.Prelude.{◌≡◌, true, [], IfOk};
-ghost use Rattle.it_types.specs.Configuration.{first_conf, kernel_conf, second_conf};
+ghost use Rattle.std.specs.Prelude.{◌≡◌, true, IfOk};
+ghost use Rattle.it_types.specs.Configuration.{bare_node, first_conf, kernel_conf, second_conf};
 ghost use Rattle.spec_kernel.specs.Opening.{IsDeclarable};
 
 use super::*;
@@ -13,19 +13,11 @@ use std::test::*;
 
 // A node with this address and tasks.
 fn node_with(alloc: Global, addr: u32, tasks: List<TaskDecl>) -> NodeConf
-    ensures { result ≡ record { addr = addr; isn0 = 0; top0 = 0; tasks = tasks; sems = []; flags = []; dtqs = []; cycs = []; cbrs = [] } }
+    ensures { result ≡ record bare_node { addr = addr; tasks = tasks } }
 {
-    NodeConf {
-        addr,
-        isn0: 0,
-        top0: 0,
-        tasks,
-        sems: List::new(alloc),
-        flags: List::new(alloc),
-        dtqs: List::new(alloc),
-        cycs: List::new(alloc),
-        cbrs: List::new(alloc),
-    }
+    let mut node = NodeConf::new(alloc, addr);
+    node.tasks = tasks;
+    node
 }
 
 fn active(id: u32) -> TaskDecl
@@ -62,10 +54,10 @@ fn returns(node: u8, task: u32) -> Event {
 }
 
 // The event is refused, and the history stays.
-fn refuse(rt: &impl Abort, alloc: Global, world: &mut World, ev: Event, why: WErr, what: &str) {
+fn refuse(rt: &impl Abort, alloc: Global, world: &mut World, ev: Event, why: WErr) {
     let entries = world.log().len();
-    assert_eq!(rt; world.step(alloc, ev), Err(why), "{what}");
-    assert_eq!(rt; world.log().len(), entries, "{what}");
+    assert_eq!(rt; world.step(alloc, ev), Err(why));
+    assert_eq!(rt; world.log().len(), entries);
 }
 
 // The event gives the history one entry more.
@@ -75,8 +67,9 @@ fn take(rt: &impl Abort, alloc: Global, world: &mut World, ev: Event) {
     assert_eq!(rt; world.log().len() - entries, 1);
 }
 
-fn expect_answer(rt: &impl Abort, entry: Option<&Entry>, code: Er, bytes: &[u8]) {
-    match entry {
+// The last entry has this answer.
+fn expect_answer(rt: &impl Abort, world: &World, code: Er, bytes: &[u8]) {
+    match world.log().last() {
         Some(
             Entry {
                 ans: Ans::Now(answer, told),
@@ -90,27 +83,58 @@ fn expect_answer(rt: &impl Abort, entry: Option<&Entry>, code: Er, bytes: &[u8])
     }
 }
 
+// The last entry has the end of the call 1 with this answer, and no other.
+fn expect_end(rt: &impl Abort, world: &World, code: Er, bytes: &[u8]) {
+    match world.log().last() {
+        Some(entry) => match entry.ends.as_slice() {
+            [end] => {
+                assert_eq!(rt; (end.call, end.code), (CallNo(1), code));
+                assert_eq!(rt; end.bytes.as_slice(), bytes);
+            }
+            _ => assert!(rt; false),
+        },
+        None => assert!(rt; false),
+    }
+}
+
+// The last entry has this packet, and no other.
+fn expect_packet(rt: &impl Abort, world: &World, bytes: &[u8]) {
+    match world.log().last() {
+        Some(entry) => match entry.packs.as_slice() {
+            [pack] => assert_eq!(rt; pack.as_slice(), bytes),
+            _ => assert!(rt; false),
+        },
+        None => assert!(rt; false),
+    }
+}
+
+// What no node admits before the first event.
+fn refuse_what_is_not_admitted(rt: &impl Abort, alloc: Global, world: &mut World) {
+    for ev in [
+        Event::Tick(NodeId(2)),
+        call(0, 2, Req::ExtTsk),
+        call(2, 1, Req::ExtTsk),
+        returns(0, 1),
+        Event::Begin(NodeId(0)),
+        Event::Finish(NodeId(0)),
+    ] {
+        refuse(rt, alloc, world, ev, WErr::NotAdmitted);
+    }
+}
+
 #[test]
 fn refused_events_change_nothing(rt: HostRuntime) -> Result<(), Fail> {
     let alloc = rt.alloc();
     let conf = two_nodes(alloc)?;
     let mut world = World::open(alloc, &conf)?;
-    let refused = [
-        ("no packet", Event::Deliver(PackNo(0)), WErr::NoPacket),
-        ("no such node", Event::Tick(NodeId(2)), WErr::NotAdmitted),
-        ("another task", call(0, 2, Req::ExtTsk), WErr::NotAdmitted),
-        (
-            "no such node's task",
-            call(2, 1, Req::ExtTsk),
-            WErr::NotAdmitted,
-        ),
-        ("no answer", returns(0, 1), WErr::NotAdmitted),
-        ("no handler", Event::Begin(NodeId(0)), WErr::NotAdmitted),
-        ("none begun", Event::Finish(NodeId(0)), WErr::NotAdmitted),
-    ];
-    for (what, ev, why) in refused {
-        refuse(&rt, alloc, &mut world, ev, why, what);
-    }
+    refuse(
+        &rt,
+        alloc,
+        &mut world,
+        Event::Deliver(PackNo(0)),
+        WErr::NoPacket,
+    );
+    refuse_what_is_not_admitted(&rt, alloc, &mut world);
     take(&rt, alloc, &mut world, call(0, 1, Req::DlyTsk { ms: 0 }));
     take(&rt, alloc, &mut world, Event::Tick(NodeId(0)));
     refuse(
@@ -119,10 +143,9 @@ fn refused_events_change_nothing(rt: HostRuntime) -> Result<(), Fail> {
         &mut world,
         call(0, 1, Req::ExtTsk),
         WErr::NotAdmitted,
-        "an answer is held",
     );
     take(&rt, alloc, &mut world, returns(0, 1));
-    expect_answer(&rt, world.log().last(), E_OK, b"");
+    expect_answer(&rt, &world, E_OK, b"");
     take(&rt, alloc, &mut world, Event::Stop);
     refuse(
         &rt,
@@ -130,22 +153,18 @@ fn refused_events_change_nothing(rt: HostRuntime) -> Result<(), Fail> {
         &mut world,
         Event::Tick(NodeId(0)),
         WErr::Stopped,
-        "after the stop",
     );
-    assert!(rt; !world.full());
-    assert!(rt; !world.ended());
+    assert!(rt; !world.full() && !world.ended());
     assert!(rt; world.node(NodeId(2)).is_none());
     Ok(())
 }
 
 // "hi" from 10.0.0.1:1000 to 10.0.0.2:2000.
-const HI: [u8; 30] = [
-    0x45, 0x00, 0x00, 0x1e, 0x00, 0x00, 0x40, 0x00, 0x40, 0x11, 0x26, 0xcd, 0x0a, 0x00, 0x00, 0x01,
-    0x0a, 0x00, 0x00, 0x02, 0x03, 0xe8, 0x07, 0xd0, 0x00, 0x0a, 0x77, 0xb6, 0x68, 0x69,
-];
+const HI: &[u8] =
+    b"\x45\x00\x00\x1e\x00\x00\x40\x00\x40\x11\x26\xcd\x0a\x00\x00\x01\x0a\x00\x00\x02\x03\xe8\x07\xd0\x00\x0a\x77\xb6hi";
 
 // Its sender and its first byte.
-const SHORT: [u8; 7] = [0x0a, 0x00, 0x00, 0x01, 0x03, 0xe8, 0x68];
+const SHORT: &[u8] = b"\x0a\x00\x00\x01\x03\xe8h";
 
 fn create(port: u16) -> Req {
     Req::UdpCreCep {
@@ -155,14 +174,8 @@ fn create(port: u16) -> Req {
     }
 }
 
-// A datagram goes from node 0 to node 1, where a task waits for it with room for one byte.
-#[test]
-fn a_datagram_reaches_the_other_node(rt: HostRuntime) -> Result<(), Fail> {
-    let alloc = rt.alloc();
-    let conf = two_nodes(alloc)?;
-    let mut world = World::open(alloc, &conf)?;
-    take(&rt, alloc, &mut world, call(0, 1, create(1000)));
-    let send = Req::UdpSndDat {
+fn send_hi(alloc: Global) -> Result<Req, NoMemory> {
+    Ok(Req::UdpSndDat {
         cep: CepId(1),
         dest: EndPt {
             addr: 0x0a000002,
@@ -170,32 +183,31 @@ fn a_datagram_reaches_the_other_node(rt: HostRuntime) -> Result<(), Fail> {
         },
         load: Bytes::of(alloc, b"hi")?,
         tmo: Tmo::Fevr,
-    };
-    take(&rt, alloc, &mut world, call(0, 1, send));
-    expect_answer(&rt, world.log().last(), Er(2), b"");
-    if let Some(entry) = world.log().last() {
-        assert_eq!(rt; entry.packs.len(), 1);
-        if let Some(pack) = entry.packs.as_slice().first() {
-            assert_eq!(rt; pack.as_slice(), HI.as_slice());
-        }
-    }
+    })
+}
+
+const RECEIVE: Req = Req::UdpRcvDat {
+    cep: CepId(1),
+    len: 1,
+    tmo: Tmo::Fevr,
+};
+
+// A datagram goes from node 0 to node 1, where a task waits for it with room for one byte.
+#[test]
+fn a_datagram_reaches_the_other_node(rt: HostRuntime) -> Result<(), Fail> {
+    let alloc = rt.alloc();
+    let conf = two_nodes(alloc)?;
+    let mut world = World::open(alloc, &conf)?;
+    take(&rt, alloc, &mut world, call(0, 1, create(1000)));
+    take(&rt, alloc, &mut world, call(0, 1, send_hi(alloc)?));
+    expect_answer(&rt, &world, Er(2), b"");
+    expect_packet(&rt, &world, HI);
     assert_eq!(rt; world.packets(), 1);
     take(&rt, alloc, &mut world, call(1, 1, create(2000)));
-    let receive = Req::UdpRcvDat {
-        cep: CepId(1),
-        len: 1,
-        tmo: Tmo::Fevr,
-    };
-    take(&rt, alloc, &mut world, call(1, 1, receive));
+    take(&rt, alloc, &mut world, call(1, 1, RECEIVE));
     take(&rt, alloc, &mut world, Event::Deliver(PackNo(0)));
-    if let Some(entry) = world.log().last() {
-        assert_eq!(rt; entry.ends.len(), 1);
-        if let Some(end) = entry.ends.as_slice().first() {
-            assert_eq!(rt; (end.call, end.code), (CallNo(1), E_BOVR));
-            assert_eq!(rt; end.bytes.as_slice(), SHORT.as_slice());
-        }
-    }
+    expect_end(&rt, &world, E_BOVR, SHORT);
     take(&rt, alloc, &mut world, returns(1, 1));
-    expect_answer(&rt, world.log().last(), E_BOVR, &SHORT);
+    expect_answer(&rt, &world, E_BOVR, SHORT);
     Ok(())
 }

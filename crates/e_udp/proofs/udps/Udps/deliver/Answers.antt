@@ -10,7 +10,7 @@ use Rattle.spec_net.specs.declared.pending.NetCall.{NetCall}
 use Rattle.spec_net.specs.declared.pending.PendingRequest.TheVariants.{UdpReceive}
 use Rattle.e_udp.proofs.Delivering.{arrive_ends, arrive_joins, arrive_nowhere}
 use Rattle.e_udp.proofs.Doing.{does_same, rests}
-use Rattle.e_udp.proofs.Places.{no_place, place_found}
+use Rattle.spec_lists.proofs.Places.{no_place, place_found}
 use Rattle.e_udp.proofs.udps.Udps.deliver.Goals as goal
 
 no_call : NetCall

@@ -4,7 +4,7 @@ use Rattle.std.proofs.lemmas.Result.{IfOk-weaker}
 use Rattle.spec_net.specs.NetEnds.{has_number}
 use Rattle.e_udp.proofs.Doing.{ending_does, nothing_ends}
 use Rattle.e_udp.proofs.Keeping.{kept_leaving}
-use Rattle.e_udp.proofs.Places.{place_found}
+use Rattle.spec_lists.proofs.Places.{place_found}
 use Rattle.e_udp.proofs.udps.Udps.end.Goals as goal
 
 pub invariant_of-self : goal.invariant_of-self
