@@ -2,30 +2,7 @@
 # Runs the built program on every example and on every kind of bad input, and compares what it writes to standard output
 # and to standard error, and its exit status, with what it must write.
 cd "$(dirname "$0")/.." || exit 1
-work=$(mktemp -d) || exit 1
-trap 'rm -rf "$work"' EXIT
-passed=0
-failed=0
-
-# expect NAME STATUS OUTPUT-FILE ERROR-TEXT: compares the last run, which wrote $work/out and $work/err.
-expect() {
-    local name=$1 want=$2 output=$3 errors=$4 got
-    got=$(cat "$work/status")
-    printf '%s' "$errors" >"$work/errors"
-    if [ "$got" != "$want" ]; then
-        echo "FAILED $name: status $got in place of $want"
-    elif ! cmp -s "$work/out" "$output"; then
-        echo "FAILED $name: another output:"
-        diff "$output" "$work/out" | head -5
-    elif ! cmp -s "$work/err" "$work/errors"; then
-        echo "FAILED $name: another text on standard error:"
-        head -c 300 "$work/err"
-    else
-        passed=$((passed + 1))
-        return
-    fi
-    failed=$((failed + 1))
-}
+. tests/expecting.sh
 
 # run WORDS..: runs the program on $work/in.
 run() {
@@ -226,6 +203,16 @@ expect 'faulty words before a closed input' 2 "$work/empty" "$usage"
 echo $? >"$work/status"
 expect 'no script before a closed output' 3 "$work/empty" 'line 0: form
 '
+./itron simulate <"$work/empty" >"$work/out" 2>&-
+echo $? >"$work/status"
+: >"$work/err"
+expect 'faulty words with closed standard error' 2 "$work/empty" ''
+./itron sim <"$work/empty" >"$work/out" 2>&-
+echo $? >"$work/status"
+expect 'no script with closed standard error' 3 "$work/empty" ''
+./itron sim <examples/handoff.itron >"$work/out" 2>&-
+echo $? >"$work/status"
+expect 'an example with closed standard error' 0 examples/handoff.txt ''
 
 # A task that waits for good while both nodes have all the ticks that a script can give: 800,002 entries.
 sed 's/^ticks .*/ticks 400000/; s/^link .*/link 0 0 0 0/' examples/waits_for_good.itron >"$work/in"
@@ -250,6 +237,7 @@ run sim
 } >"$work/want"
 expect 'data of 1,024 bytes' 0 "$work/want" ''
 
+tests/unproved.sh || failed=$((failed + 1))
 tests/wire.sh || failed=$((failed + 1))
 tests/wrong_scripts.sh || failed=$((failed + 1))
 

@@ -1,3 +1,3 @@
 pub mod Top
-pub mod Codes
+pub mod Messages
 pub mod Prints

@@ -1,5 +1,5 @@
 ghost use Rattle.std.specs.Prelude.{◌≡◌};
-ghost use Rattle.itron.specs.Codes.{exit_code_of};
+ghost use Rattle.itron.specs.Messages.{cause_word_of, exit_code_of, message_of};
 
 use s_script::Why;
 
@@ -39,5 +39,34 @@ impl Status {
             Status::NoMemory => 7,
             Status::TooBig => 10,
         }
+    }
+
+    /// What standard error is told of it, without the end of the line: nothing where all went well, and of a script that is
+    /// wrong the cause alone.
+    pub fn message(self) -> &'static str
+        ensures { result.now ≡ message_of self }
+    {
+        match self {
+            Status::Ok => "",
+            Status::Usage => "usage: itron sim, audit, shape, run or gen N",
+            Status::Script(_, why) => cause_word(why),
+            Status::ReadFault => "read fault",
+            Status::WriteFault => "write fault",
+            Status::TooLong => "history too long",
+            Status::NoMemory => "out of memory",
+            Status::TooBig => "input too big",
+        }
+    }
+}
+
+/// The word of a cause.
+pub fn cause_word(why: Why) -> &'static str
+    ensures { result.now ≡ cause_word_of why }
+{
+    match why {
+        Why::Form => "form",
+        Why::Range => "range",
+        Why::Twice => "twice",
+        Why::Missing => "missing",
     }
 }
