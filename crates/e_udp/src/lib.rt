@@ -19,6 +19,3 @@ pub use out::Out;
 pub use point::Point;
 pub use spec_net::{NetAnswer, NetEnd};
 pub use udps::Udps;
-
-#[cfg(test)]
-mod tests;

@@ -32,8 +32,8 @@ pub record ReadScript (left_before left_after : Option (List ℕ)) : Type 0 wher
   pub whole : ReadToEnd left_before left_after bytes
   pub read : IsReadAs bytes script
 
--- and the whole output of that script was written; its history is a run of the machine of two nodes; in neither node a call
--- that is ready waits after any entry of it, nor one whose deadline is at or before now
+-- and the whole output of that script was written; its history is a run of the machine of two nodes, both of which are at rest after each
+-- entry of it
 pub record RanScript (left_before left_after written_before written_after : Option (List ℕ)) : Type 0 where
   pub input : ReadScript left_before left_after
   pub wrote : Appends written_before written_after (output_of input.script)

@@ -1,6 +1,6 @@
-ghost use Rattle.std.specs.Prelude.{◌≡◌, ◌≢◌, ◌↔◌, ◌⊎◌, ℕ, ◌≤◌, ◌+◌, true, false, List, [], length, map, string_bytes, Option, Some, Err, IfOk};
+ghost use Rattle.std.specs.Prelude.{◌≡◌, ◌≢◌, ◌↔◌, ◌⊎◌, ℕ, ◌≤◌, ◌+◌, true, false, List, [], length, map, string_bytes, Option, Some, Err, IfOk, OnOk, OnErr};
 ghost use Rattle.std.specs.Io.KnownBytes.{Appends};
-ghost use Rattle.it_io.specs.Faults.{Rose};
+ghost use Rattle.it_io.specs.Faults.{Rose, next_count};
 ghost use Rattle.it_io.specs.Input.{ReadToEnd, TookAtMost, TookPast};
 ghost use Rattle.s_script.specs.declared.read_bad.Why.{Why as Cause};
 ghost use Rattle.s_script.specs.declared.read_bad.Why.TheVariants.{Form};
@@ -27,8 +27,11 @@ fn input_of<S: Source>(alloc: Global, src: &mut S) -> Result<Vec<u8>, Status>
     ensures no_fault { result ≢ Err Status.ReadFault → S.faults src.new ≡ S.faults src.old }
     ensures too_big { result ≡ Err Status.TooBig → TookPast (S.left src.old) (S.left src.new) input_limit }
     ensures within { IfOk result (λ v. length v.items ≤ input_limit) }
+    ensures fault_within { result ≡ Err Status.ReadFault → TookAtMost (S.left src.old) (S.left src.new) input_limit }
     ensures no_memory { result ≡ Err Status.NoMemory → TookAtMost (S.left src.old) (S.left src.new) input_limit }
     ensures most { TookAtMost (S.left src.old) (S.left src.new) (input_limit + 1) }
+    ensures ended { OnOk result (S.ends src.new ≡ next_count (S.ends src.old)) }
+    ensures not_ended { OnErr result (S.ends src.new ≡ S.ends src.old) }
     ensures only { (e : AStatus) → result ≡ Err e → (e ≡ Status.ReadFault) ⊎ ((e ≡ Status.TooBig) ⊎ (e ≡ Status.NoMemory)) }
 {
     match read_all(alloc, src, INPUT_LIMIT) {
@@ -84,8 +87,10 @@ fn run<S: Source, K: Sink>(alloc: Global, src: &mut S, out: &mut K) -> Status
     ensures was_script { result ≡ Status.WriteFault → ReadScript (S.left src.old) (S.left src.new) }
     ensures part { result ≡ Status.WriteFault → RanPart (S.left src.old) (S.left src.new) (K.written out.old) (K.written out.new) }
     ensures too_big { result ≡ Status.TooBig → TookPast (S.left src.old) (S.left src.new) input_limit }
-    ensures within { (result ≢ Status.TooBig) → (result ≢ Status.ReadFault) → TookAtMost (S.left src.old) (S.left src.new) input_limit }
+    ensures within { (result ≢ Status.TooBig) → TookAtMost (S.left src.old) (S.left src.new) input_limit }
     ensures no_write_fault { result ≢ Status.WriteFault → K.faults out.new ≡ K.faults out.old }
+    ensures ended { (result ≢ Status.ReadFault) → (result ≢ Status.TooBig) → (result ≢ Status.NoMemory) → S.ends src.new ≡ next_count (S.ends src.old) }
+    ensures end_once { (S.ends src.new ≡ S.ends src.old) ⊎ (S.ends src.new ≡ next_count (S.ends src.old)) }
     ensures most { TookAtMost (S.left src.old) (S.left src.new) (input_limit + 1) }
     ensures nothing_written { (result ≢ Status.Ok) → (result ≢ Status.TooLong) → (result ≢ Status.WriteFault) → out.new ≡ out.old }
 {
@@ -114,9 +119,13 @@ pub fn top<S: Source, K: Sink>(alloc: Global, words: &[String], src: &mut S, out
     ensures was_script { result ≡ Status.WriteFault → ReadScript (S.left src.old) (S.left src.new) }
     ensures part { result ≡ Status.WriteFault → RanPart (S.left src.old) (S.left src.new) (K.written out.old) (K.written out.new) }
     ensures too_big { result ≡ Status.TooBig → TookPast (S.left src.old) (S.left src.new) input_limit }
-    ensures within { (result ≢ Status.TooBig) → (result ≢ Status.ReadFault) → TookAtMost (S.left src.old) (S.left src.new) input_limit }
+    ensures within { (result ≢ Status.TooBig) → TookAtMost (S.left src.old) (S.left src.new) input_limit }
     ensures no_write_fault { result ≢ Status.WriteFault → K.faults out.new ≡ K.faults out.old }
+    ensures end_once { (S.ends src.new ≡ S.ends src.old) ⊎ (S.ends src.new ≡ next_count (S.ends src.old)) }
     ensures most { TookAtMost (S.left src.old) (S.left src.new) (input_limit + 1) }
+
+    // The source was read to its end, which it told once.
+    ensures ended { (result ≢ Status.Usage) → (result ≢ Status.ReadFault) → (result ≢ Status.TooBig) → (result ≢ Status.NoMemory) → S.ends src.new ≡ next_count (S.ends src.old) }
 
     // What stays as it was.
     ensures usage_reads_nothing { result ≡ Status.Usage → src.new ≡ src.old }

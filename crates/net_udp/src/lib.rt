@@ -12,6 +12,3 @@ pub use laws::what_is_written_is_read;
 pub use reading::decode;
 pub use spec_wire::udp::Bad;
 pub use writing::encode_into;
-
-#[cfg(test)]
-mod tests;

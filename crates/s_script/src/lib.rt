@@ -19,6 +19,3 @@ pub use conf::conf_of;
 pub use print::print_into;
 pub use read_bad::{ReadBad, Why};
 pub use reader::{first_wrong, read, reading};
-
-#[cfg(test)]
-mod tests;

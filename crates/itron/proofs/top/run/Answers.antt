@@ -35,4 +35,4 @@ returns-in-Ok-clause-part g c = λ e.
     }
 
 pub returns-in-Ok-clause-within : goal.returns-in-Ok-clause-within
-returns-in-Ok-clause-within g c = λ not_big no_fault. record { bytes = c.in-Ok.input.items; taken = c.in-Ok.ensures.ok.taken; bound = c.in-Ok.ensures.within }
+returns-in-Ok-clause-within g c = λ not_big. record { bytes = c.in-Ok.input.items; taken = c.in-Ok.ensures.ok.taken; bound = c.in-Ok.ensures.within }

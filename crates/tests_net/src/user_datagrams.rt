@@ -1,4 +1,4 @@
-use super::*;
+use net_udp::{Bad, Udp, decode, encode_into};
 use std::test::*;
 
 const FROM: u32 = 0x0a000001;

@@ -1,4 +1,4 @@
-use super::*;
+use s_script::{ReadBad, Why, conf_of, print_into, read};
 use it_types::{CepId, EndPt, KReq, NoMemory, ObjId, Req, SemDecl, TaskDecl, Tmo};
 use spec_script::{Decl, Line, Script};
 use std::alloc::Global;

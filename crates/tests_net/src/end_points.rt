@@ -1,6 +1,6 @@
 ghost use Rattle.std.specs.Prelude.{◌≡◌, ◌≢◌};
 
-use super::*;
+use e_udp::{NetAnswer, Out, Udps};
 use it_types::{
     CallNo, CepId, E_BOVR, E_ID, E_NOEXS, E_OBJ, E_OK, E_PAR, E_TMOUT, EndPt, Er, NoMemory, ObjId,
     TaskId, Tmo,

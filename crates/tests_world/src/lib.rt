@@ -1,0 +1,6 @@
+//! Tests of sources and sinks, of the kernel, of scripts and of two nodes. They are a crate of their own, since a crate with tests is proved
+//! a second time with them.
+#![tactic(auto)]
+
+#[cfg(test)]
+mod scripts;
