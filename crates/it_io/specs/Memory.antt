@@ -9,9 +9,10 @@ pub record Supply : Type 0 where
   pub piece : ℕ
   -- the numbers of the calls that fail, from 1
   pub fail : List ℕ
-  -- the calls so far, and how many of them failed
+  -- the calls so far, how many of them failed, and how many told the end
   pub calls : ℕ
   pub faults : ℕ
+  pub ends : ℕ
 
 -- a sink over memory
 pub record Store : Type 0 where

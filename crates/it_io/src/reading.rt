@@ -1,7 +1,7 @@
 ghost use Rattle.std.specs.Prelude.{◌≡◌, ◌≢◌, ℕ, ◌≤◌, ◌+◌, ◌-◌, length, Err, OnOk, OnErr, IfOk, IsErrOf};
 ghost use Rattle.std.specs.Io.{StartsWith, appended_bytes};
 ghost use Rattle.std.specs.Io.KnownBytes.{Consumes, IsAtEnd};
-ghost use Rattle.it_io.specs.Faults.{Rose};
+ghost use Rattle.it_io.specs.Faults.{Rose, next_count};
 ghost use Rattle.it_io.specs.Input.{ReadToEnd, TookAtMost, TookExactly, TookPast};
 
 use super::errors::Failed;
@@ -33,7 +33,13 @@ pub fn read_all<S: Source>(alloc: Global, src: &mut S, limit: usize) -> Result<V
         TookPast (S.left src.old) (S.left src.new) limit }
     ensures no_memory { IsErrOf result ReadErr.NoMemory →
         TookAtMost (S.left src.old) (S.left src.new) limit }
+    ensures fault_within { IsErrOf result ReadErr.Fault →
+        TookAtMost (S.left src.old) (S.left src.new) limit }
     ensures later { S.faults src.old ≤ S.faults src.new }
+
+    // The end is asked for once.
+    ensures ended { OnOk result (S.ends src.new ≡ next_count (S.ends src.old)) }
+    ensures not_ended { OnErr result (S.ends src.new ≡ S.ends src.old) }
 
     // Whatever the answer.
     ensures most { TookAtMost (S.left src.old) (S.left src.new) (limit + 1) }
@@ -55,11 +61,15 @@ fn read_piece<S: Source>(src: &mut S, all: &mut Vec<u8>, limit: usize) -> Result
     ensures taken { OnOk result (Consumes (S.left src.old) (S.left src.new)
         (appended_bytes all.old.items all.new.items)) }
     ensures end { IfOk result (λ n. n ≡ 0 → IsAtEnd (S.left src.new)) }
+    ensures ended { IfOk result (λ n. n ≡ 0 → S.ends src.new ≡ next_count (S.ends src.old)) }
+    ensures not_ended { result ≢ Ok 0 → S.ends src.new ≡ S.ends src.old }
     ensures fault { IsErrOf result ReadErr.Fault → Rose (S.faults src.old) (S.faults src.new) }
     ensures no_fault { result ≢ Err ReadErr.Fault → S.faults src.new ≡ S.faults src.old }
     ensures too_big { IsErrOf result ReadErr.TooBig →
         TookExactly (S.left src.old) (S.left src.new) (limit + 1 - length all.old.items) }
     ensures no_memory { IsErrOf result ReadErr.NoMemory →
+        TookAtMost (S.left src.old) (S.left src.new) (limit - length all.old.items) }
+    ensures fault_within { IsErrOf result ReadErr.Fault →
         TookAtMost (S.left src.old) (S.left src.new) (limit - length all.old.items) }
     ensures later { S.faults src.old ≤ S.faults src.new }
     ensures most { OnErr result

@@ -13,3 +13,9 @@ returns-in_err-read_piece-clause-no_memory g c =
     λ e.
     let same = rw e at c.from_residual.ensures.1 in
     took_some _ _ _ _ c.args.limit c.loop-all.invariant.taken c.loop-all.invariant.within (c.in_err-read_piece.ensures.no_memory (cc same))
+
+pub returns-in_err-read_piece-clause-fault_within : goal.returns-in_err-read_piece-clause-fault_within
+returns-in_err-read_piece-clause-fault_within g c =
+    λ e.
+    let same = rw e at c.from_residual.ensures.1 in
+    took_some _ _ _ _ c.args.limit c.loop-all.invariant.taken c.loop-all.invariant.within (c.in_err-read_piece.ensures.fault_within (cc same))
