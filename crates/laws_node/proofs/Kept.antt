@@ -43,7 +43,7 @@ timed_out_kept : (p : Progress) → PointsAreKept p.net → PointsAreKept (timed
 unfolding timed_out
 timed_out_kept p h = time_out_kept (length p.kernel.waits) p h
 
-step_kept : (n : PlainNode) (event : NodeEvent) → PointsAreKept n.net → PointsAreKept (node_step n event).0.net
+pub step_kept : (n : PlainNode) (event : NodeEvent) → PointsAreKept n.net → PointsAreKept (node_step n event).0.net
 unfolding node_step kernel_called network_called returned ticked arrived
 step_kept n (Call ctx (Kernel request)) h = after_kernel_kept (beginning n) (kernel_rows.call n.kernel ctx request _) h
 step_kept n (Call ctx (Network request)) h = net_call_kept n.net ctx request _ h

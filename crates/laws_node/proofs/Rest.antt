@@ -22,17 +22,23 @@ use Rattle.spec_node.specs.Progress.{after_kernel}
 use Rattle.spec_node.specs.NodeStep.{beginning, blocked_where, kernel_called, network_called, arrived, ticked, returned, node_step}
 use Rattle.spec_node.proofs.Progressing.{woken_by_rests, woken_by_none_past, blocked_where_rests, blocked_where_none_past, after_kernel_rests, after_kernel_none_past, timed_out_rests, timed_out_none_past}
 use Rattle.laws_node.specs.AtRest.{NodeRests, RestsAlong}
+use Rattle.laws_node.proofs.Kept.{step_kept, kept_from_opening}
 
 kernel_called_rests : (n : PlainNode) (ctx : Ctx) (request : KReq) → NodeRests n → NodeRests (kernel_called n ctx request).0
-unfolding kernel_called
+unfolding node_step kernel_called
 kernel_called_rests n ctx request rest =
     let number : CallNo = record { 0 = n.calls + 1 } in
     let o : Outcome = kernel_rows.call n.kernel ctx request number in
     let parts = after_kernel_rests (beginning n) o (call_rests n.kernel ctx request number) rest.none_ready_in_net in
-    record { none_ready = parts.kernel; none_past = after_kernel_none_past (beginning n) o (call_none_past n.kernel ctx request number rest.none_past); none_ready_in_net = parts.net }
+    record {
+      none_ready = parts.kernel;
+      none_past = after_kernel_none_past (beginning n) o (call_none_past n.kernel ctx request number rest.none_past);
+      none_ready_in_net = parts.net;
+      points = step_kept n (Call ctx (Kernel request)) rest.points;
+    }
 
 network_called_rests : (n : PlainNode) (ctx : Ctx) (request : NReq) → NodeRests n → NodeRests (network_called n ctx request).0
-unfolding network_called
+unfolding node_step network_called
 network_called_rests n ctx request rest =
     let number : CallNo = record { 0 = n.calls + 1 } in
     let o : NetOutcome = net_call n.net ctx request number in
@@ -40,26 +46,33 @@ network_called_rests n ctx request rest =
       none_ready = woken_by_rests (blocked_where o.answer n.kernel ctx request number) o.ends (blocked_where_rests o.answer n.kernel ctx request number rest.none_ready);
       none_past = woken_by_none_past (blocked_where o.answer n.kernel ctx request number) o.ends (blocked_where_none_past o.answer n.kernel ctx request number rest.none_past);
       none_ready_in_net = net_call_rests n.net ctx request number;
+      points = step_kept n (Call ctx (Network request)) rest.points;
     }
 
 arrived_rests : (n : PlainNode) (bytes : List ℕ) → NodeRests n → NodeRests (arrived n bytes).0
-unfolding arrived
+unfolding node_step arrived
 arrived_rests n bytes rest = record {
   none_ready = woken_by_rests n.kernel (arrive n.net bytes).ends rest.none_ready;
   none_past = woken_by_none_past n.kernel (arrive n.net bytes).ends rest.none_past;
   none_ready_in_net = arrive_rests n.net bytes;
+  points = step_kept n (Arrive bytes) rest.points;
 }
 
 returned_rests : (n : PlainNode) (task : TaskId) → NodeRests n → NodeRests (returned n task).0
 unfolding returned
-returned_rests n task rest = record { none_ready = rest.none_ready; none_past = rest.none_past; none_ready_in_net = rest.none_ready_in_net }
+returned_rests n task rest = record { none_ready = rest.none_ready; none_past = rest.none_past; none_ready_in_net = rest.none_ready_in_net; points = rest.points }
 
 ticked_rests : (n : PlainNode) → NodeRests n → NodeRests (ticked n).0
-unfolding ticked kernel_rows.tick
+unfolding node_step ticked kernel_rows.tick
 ticked_rests n rest =
     let o : Outcome = kernel_rows.tick n.kernel in
     let parts = timed_out_rests (after_kernel (beginning n) o) (after_kernel_rests (beginning n) o (settled_rests (kernel_rows.quiet (kernel_rows.ticked n.kernel))) rest.none_ready_in_net) in
-    record { none_ready = parts.kernel; none_past = timed_out_none_past (after_kernel (beginning n) o); none_ready_in_net = parts.net }
+    record {
+      none_ready = parts.kernel;
+      none_past = timed_out_none_past (after_kernel (beginning n) o);
+      none_ready_in_net = parts.net;
+      points = step_kept n Tick rest.points;
+    }
 
 step_rests : (n : PlainNode) (event : NodeEvent) → NodeRests n → NodeRests (node_step n event).0
 unfolding node_step
@@ -74,4 +87,4 @@ always n [] rest = tt
 always n (e ∷ es) rest = let next = step_rests n e rest in (next, always (node_step n e).0 es next)
 
 pub opening_rests : (conf : KConf) (addr : ℕ) → NodeRests (opened_node conf addr)
-opening_rests conf addr = record { none_ready = refl; none_past = refl; none_ready_in_net = refl }
+opening_rests conf addr = record { none_ready = refl; none_past = refl; none_ready_in_net = refl; points = kept_from_opening conf addr }

@@ -1,5 +1,5 @@
--- Two nodes at rest: no call that waits is ready, and none has a deadline at or before now, in either node. It is this
--- project's own.
+-- Two nodes at rest: in neither does a call wait that is ready, or whose deadline is at or before now, or that names an end
+-- point which isn't there; and at most one waits in each place. It is this project's own.
 use Rattle.std.specs.Prelude.{List, [], ◌∷◌}
 use Rattle.it_types.specs.declared.event.Event.{Event}
 use Rattle.it_types.specs.declared.entry.Entry.{Entry}

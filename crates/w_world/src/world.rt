@@ -187,7 +187,8 @@ impl World {
         // It is a run of the machine from the world's configuration.
         ensures run { IsRun self.now.conf result.now }
 
-        // In neither node does a call wait that is ready, or whose deadline is at or before now, after any of its entries.
+        // In neither node does a call wait that is ready, or whose deadline is at or before now, or that names an end point
+        // which isn't there; and at most one waits in each place, after any of its entries.
         ensures rests { LogRests (opened_world self.now.conf) result.now }
     {
         self.log.as_slice()
