@@ -6,11 +6,19 @@ use std::io;
 use std::io::{Error, ErrorKind, Read, Write};
 use std::test::Fail;
 
+/// The piece, the call that fails (0 for none), the limit, and what reading the text gives. In pieces of 10 the text and its
+/// end take four calls, so the fifth isn't made.
+const READS: [(usize, u64, usize, Result<usize, ReadErr>); 3] = [
+    (4, 0, 30, Ok(30)),
+    (4, 0, 29, Err(ReadErr::TooBig)),
+    (10, 5, 99, Ok(30)),
+];
+
 #[test]
 fn reads_to_the_end_within_the_limit(rt: HostRuntime) -> Result<(), Fail> {
-    for (limit, want) in [(10, Ok(10)), (9, Err(ReadErr::TooBig))] {
-        let bytes = b"0123456789".to_vec(rt.alloc())?;
-        let mut source = MemSource::new(bytes, 4, Vec::new(rt.alloc()));
+    for (piece, call, limit, want) in READS {
+        let fail = [call].to_vec(rt.alloc())?;
+        let mut source = MemSource::new(TEXT.to_vec(rt.alloc())?, piece, fail);
         let read = read_all(rt.alloc(), &mut source, limit);
         assert_eq!(rt; read.map(|all| all.len()), want);
     }
@@ -92,16 +100,37 @@ impl Read for Broken {
     }
 }
 
+// A reader whose second read tells the end, though its others give a byte each.
+#[derive(Drop)]
+struct Resumed {
+    reads: u32,
+}
+
+impl Read for Resumed {
+    fn read(&mut self, buf: &mut [u8]) -> io::Result<usize> {
+        self.reads = self.reads.saturating_add(1);
+        if self.reads == 2 || buf.is_empty() {
+            return Ok(0);
+        }
+        buf[0] = b'x';
+        Ok(1)
+    }
+}
+
 #[test]
-fn a_std_source_passes_on_what_its_reader_answers(rt: HostRuntime) {
+fn a_std_source_passes_on_what_its_reader_answers(rt: HostRuntime) -> Result<(), Fail> {
     let mut input = StdSource::new(rt.reader());
     assert_eq!(rt;
         read_all(rt.alloc(), &mut input, 4).map(|all| all.len()),
         Ok(0)
     );
+    let mut resumed = StdSource::new(Resumed { reads: 0 });
+    let read = read_all(rt.alloc(), &mut resumed, 9)?;
+    assert_eq!(rt; read.as_slice(), b"x".as_slice());
     let mut broken = StdSource::new(Broken { reads: 0 });
     assert_eq!(rt; broken.read(&mut [0u8; 4]), Ok(0));
     assert_eq!(rt; broken.read(&mut [0u8; 4]), Err(Failed));
+    Ok(())
 }
 
 // A writer whose first write a signal breaks off, whose third fails, and whose fourth takes nothing.
@@ -135,4 +164,25 @@ fn a_std_sink_passes_on_what_its_writer_answers(rt: HostRuntime) {
     assert_eq!(rt; choosy.write(b"ab"), Err(Failed));
     assert_eq!(rt; choosy.write(b"ab"), Err(Failed));
     assert_eq!(rt; choosy.write(b"ab"), Ok(1));
+}
+
+// With buffers of one place, of two, and of as many as one read of `read_all` asks for.
+#[test]
+fn std_streams_carry_each_byte_once(rt: HostRuntime) -> Result<(), Fail> {
+    let mut bytes = Vec::new(rt.alloc());
+    for i in 0..5000u32 {
+        bytes.push((i % 251) as u8)?;
+    }
+    let mut buf = [0u8; 4096];
+    for places in [1, 2, 4096] {
+        let mut taken = Vec::new(rt.alloc());
+        let mut source = StdSource::new(bytes.as_slice());
+        let mut sink = StdSink::new(&mut taken);
+        for _ in 0..=bytes.len() {
+            let n = source.read(&mut buf[..places])?;
+            write_all(&mut sink, &buf[..n])?;
+        }
+        assert_eq!(rt; taken.as_slice(), bytes.as_slice());
+    }
+    Ok(())
 }
