@@ -1,4 +1,4 @@
-ghost use Rattle.std.specs.Prelude.{◌≡◌, true, false, None, Some, IfOk, OnOk, OnErr, MatchOption, length, nat_le};
+ghost use Rattle.std.specs.Prelude.{◌≡◌, ◌≤◌, ◌↔◌, true, false, None, Some, IsSome, IfSome, IfOk, OnOk, OnErr, length};
 ghost use mathlib.Core.Logic.{◌⊎◌};
 ghost use Rattle.it_types.specs.Configuration.{first_conf, kernel_conf, second_conf};
 ghost use Rattle.spec_kernel.specs.Opening.{IsDeclarable};
@@ -229,10 +229,14 @@ impl World {
         &self.conf
     }
 
-    /// The node 0 or 1, and none under another id. Where memory ran out in a step, nothing is said of what it is.
+    /// The node 0 or 1; none under another id, and none where memory ran out in a step.
     pub fn node(&self, id: NodeId) -> Option<&Node>
-        ensures { MatchOption result (nat_le id.0 1 ≡ false) (λ n. (nat_le id.0 1 ≡ true) × (self.now.ended ≡ false → n.now ≡ node_at (world_of self.now).nodes id)) }
+        ensures some { IsSome result ↔ ((id.0 ≤ 1) × (self.now.ended ≡ false)) }
+        ensures node { IfSome result (λ n. n.now ≡ node_at (world_of self.now).nodes id) }
     {
+        if self.ended {
+            return None;
+        }
         match id.0 {
             0 => Some(self.nodes.first()),
             1 => Some(self.nodes.second()),
