@@ -1,15 +1,17 @@
 -- What the code of each row does is what the row says, for the kernel that it began with: `before` are its tables, and
 -- `named` is the kernel that the contract names.
-use Rattle.std.proofs.Common.{◌≡◌, ℕ, ◌<◌, ◌≤◌, ltb, length, get_or, None, Some, true, false, List, [], ◌∷◌, refl, ap, sym, ◌∙◌, subst}
+use Rattle.std.proofs.Common.{◌≡◌, ℕ, ◌<◌, ◌≤◌, ltb, length, get_or, Option, None, Some, true, false, List, [], ◌∷◌, refl, ap, sym, ◌∙◌, subst}
 use Rattle.std.proofs.lemmas.Bool.{le-ltb}
 use Rattle.std.specs.List.{remove}
 use Rattle.it_types.specs.declared.context.Ctx.{Ctx}
+use Rattle.it_types.specs.declared.er.Er.{Er}
 use Rattle.it_types.specs.declared.er.TheConstants.{E_OK}
 use Rattle.it_types.specs.declared.id.CallNo.{CallNo}
 use Rattle.it_types.specs.declared.id.ObjId.{ObjId}
 use Rattle.it_types.specs.declared.id.TaskId.{TaskId}
 use Rattle.it_types.specs.declared.timeout.Tmo.{Tmo}
 use Rattle.it_types.specs.declared.timeout.Tmo.TheVariants as timeouts
+use Rattle.it_types.specs.declared.kernel_request.KReq.{KReq}
 use Rattle.it_types.specs.declared.kernel_request.KReq.TheVariants.{ExtTsk, DlyTsk, SigSem, TwaiSem}
 use Rattle.it_types.specs.Callers.{caller, nobody}
 use Rattle.spec_lists.specs.Tables.{get}
@@ -17,6 +19,7 @@ use Rattle.spec_lists.specs.First.{take_first}
 use Rattle.spec_lists.specs.Refusal.{first_refusal}
 use Rattle.spec_lists.proofs.Outcomes.{by_outcome}
 use Rattle.spec_kernel.specs.declared.outcome.KAns.TheVariants.{Now}
+use Rattle.spec_kernel.specs.declared.semaphore.Semaphore.{Semaphore}
 use Rattle.spec_kernel.specs.declared.wait.Wait.{Wait}
 use Rattle.spec_kernel.specs.declared.wait.WaitFor.TheVariants as targets
 use Rattle.spec_kernel.specs.PlainKernel.{PlainKernel}
@@ -29,7 +32,7 @@ use Rattle.spec_kernel.specs.declared.outcome.KEnd.{KEnd}
 use Rattle.k_core.specs.ByTime.{ended_alone}
 use Rattle.spec_kernel.specs.Rows.{is_on, refusals, answered, waiting, accepted, exited, call}
 use Rattle.spec_kernel.proofs.Allowed.{signal_not_full}
-use Rattle.spec_kernel.proofs.RowCases.{acquired, delay_waits, exit_ends, signal_ends, signal_raises, signalled, wait_accepts, wait_takes}
+use Rattle.spec_kernel.proofs.RowCases.{acquired, call_refused, delay_waits, exit_ends, signal_ends, signal_raises, signalled, wait_accepts, wait_takes}
 use Rattle.k_core.specs.declared.done.Done.{Done}
 use Rattle.k_core.specs.Does.{Does}
 
@@ -84,6 +87,19 @@ unfolding unblocked
 unblock_leaves k task none = rw none refl
 
 module _ {before named : PlainKernel} (same : before ≡ named) (rest : AtRest before) where
+  -- a call that is refused at the tables of the kernel
+  pub refusal_does : {done : Done} (ctx : Ctx) (request : KReq) (number : CallNo) (answer : Option Er) (code : Er) (semaphores : List (Option Semaphore)) (waits : List Wait)
+      → semaphores ≡ before.semaphores
+      → waits ≡ before.waits
+      → ((k : PlainKernel) → answer ≡ first_refusal (refusals (record k { semaphores = semaphores; waits = waits }) ctx request))
+      → answer ≡ Some code
+      → Does named done (answered named code)
+      → Does named done (call named ctx request number)
+  refusal_does ctx request number answer code semaphores waits s w answers is does =
+      let at = rw (s, w) at (answers before) in
+      let refused : first_refusal (refusals named ctx request) ≡ Some code = ap (λ (k : PlainKernel). first_refusal (refusals k ctx request)) (sym same) ∙ sym at ∙ is in
+      does_same (call_refused named ctx request number code (rests same rest) refused) does
+
   -- a signal on which no call waits
   pub raise_does : {after : PlainKernel} {done : Done} (ctx : Ctx) (s : ObjId) (number : CallNo)
       → first_refusal (refusals named ctx (SigSem s)) ≡ None

@@ -1,4 +1,5 @@
 pub mod Doing
 pub mod Keeping
+pub mod NewIds
 pub mod Scan
 pub mod Soonest

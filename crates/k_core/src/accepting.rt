@@ -1,6 +1,6 @@
 ghost use Rattle.std.specs.Prelude.{◌≡◌, ◌≢◌, ◌<◌, ◌^◌, false};
 ghost use Rattle.spec_kernel.specs.Tasks.{running};
-ghost use Rattle.spec_kernel.specs.Settle.{is_met};
+ghost use Rattle.spec_kernel.specs.Settle.{AtRest, is_met};
 ghost use Rattle.spec_kernel.specs.Rows.{accepted, waiting};
 ghost use Rattle.k_core.specs.Does.{Does};
 
@@ -32,7 +32,8 @@ impl Kernel {
         requires some { task.0 ≢ 0 }
         requires unmet { is_met self.old.semaphores target ≡ false }
         requires counts { self.old.now < 2 ^ 60 }
-        ensures { Does self.new result (waiting self.old task target tmo no) }
+        ensures does { Does self.new result (waiting self.old task target tmo no) }
+        ensures rest { AtRest self.old }
     {
         self.begin_wait(task, target, tmo, no);
         Done::pending()
@@ -44,7 +45,10 @@ impl Kernel {
         requires some { task.0 ≢ 0 }
         requires unmet { is_met self.old.semaphores target ≡ false }
         requires counts { self.old.now < 2 ^ 60 }
-        ensures { self.new ≡ (waiting self.old task target tmo no).kernel }
+        ensures kernel { self.new ≡ (waiting self.old task target tmo no).kernel }
+
+        // No call that waited before was ready.
+        ensures rest { AtRest self.old }
     {
         let deadline = deadline_of(self.ticks, tmo);
         self.last_call = no;

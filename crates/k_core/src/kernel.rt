@@ -8,6 +8,7 @@ ghost use Rattle.spec_lists.specs.Refusal.{first_refusal};
 ghost use Rattle.k_core.specs.Does.{Does};
 
 use crate::Done;
+use crate::refusals::refusal;
 use crate::tables::{MAX_TASKS, is_active, most_urgent};
 use arrayvec::ArrayVec;
 use it_types::{CallNo, Ctx, KReq, ObjId, TaskId};
@@ -67,7 +68,7 @@ impl Kernel {
         requires counts { self.old.now < 2 ^ 60 }
         ensures { Does self.new result (call self.old ctx req.now no) }
     {
-        match self.refusal(ctx, req) {
+        match refusal(&self.semaphores, self.waits.as_slice(), ctx, req) {
             Some(code) => Done::now(code),
             None => self.carry_out(ctx, req, no),
         }

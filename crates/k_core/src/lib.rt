@@ -3,6 +3,7 @@
 
 mod accepting;
 mod deadlines;
+mod declarable;
 mod done;
 mod kernel;
 mod opening;
@@ -14,6 +15,7 @@ mod task_calls;
 mod waits;
 mod waking;
 
+pub use declarable::is_declarable;
 pub use done::Done;
 pub use kernel::Kernel;
 pub use spec_kernel::{KAns, KEnd};

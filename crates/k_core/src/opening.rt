@@ -1,9 +1,10 @@
-ghost use Rattle.std.specs.Prelude.{◌≡◌, ◌≤◌, true, map, length, IfOk};
+ghost use Rattle.std.specs.Prelude.{◌≡◌, ◌↔◌, ◌≤◌, IsTrue, true, map, length, IfOk};
 ghost use Rattle.spec_lists.specs.Tables.{empty_table, filled};
 ghost use Rattle.spec_kernel.specs.PlainKernel.{greatest_id};
 ghost use Rattle.spec_kernel.specs.Opening.{IsDeclarable, are_new_ids, declared_id, opened, semaphore_at_start, semaphore_id, task_at_start, task_id};
 
 use crate::Kernel;
+use crate::declarable::is_declarable;
 use crate::tables::MAX_TASKS;
 use arrayvec::ArrayVec;
 use it_types::{CallNo, KConf, NoMemory, SemDecl, TABLE_PLACES, TaskDecl, TaskId};
@@ -55,8 +56,21 @@ fn declared_ids(decls: &[TaskDecl]) -> ArrayVec<TaskId, MAX_TASKS>
 }
 
 impl Kernel {
+    /// Whether a kernel can be opened with these declarations: those for which `is_declarable` holds.
+    pub fn can_open(conf: &KConf) -> bool
+        ensures { IsTrue result ↔ IsDeclarable conf.now }
+    {
+        is_declarable(
+            conf.tasks.tasks.as_slice(),
+            conf.sync.sems.as_slice(),
+            conf.sync.flags.as_slice(),
+            conf.sync.dtqs.as_slice(),
+            conf.cycs.cycs.as_slice(),
+        )
+    }
+
     /// The kernel of a node with these declarations, at tick 0 with its active tasks runnable in the order of their
-    /// declarations.
+    /// declarations. `can_open` tells whether there is one.
     pub fn open(alloc: Global, conf: &KConf) -> Result<Kernel, NoMemory>
         requires { IsDeclarable conf.now }
         ensures { IfOk result (λ k. k ≡ opened conf.now) }

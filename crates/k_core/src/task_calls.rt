@@ -33,7 +33,6 @@ impl Kernel {
         requires counts { self.old.now < 2 ^ 60 }
         ensures { Does self.new result (call self.old ctx (KReq.DlyTsk ticks) no) }
     {
-        let _ = &self.waits;
         self.wait(ctx.caller(), WaitFor::Delay, Tmo::Ms(ticks), no)
     }
 }

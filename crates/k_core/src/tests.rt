@@ -146,6 +146,19 @@ fn expect_unblocked(rt: &impl Abort, kernel: &mut Kernel, task: TaskId, was: boo
 }
 
 #[test]
+fn an_id_is_declared_once(rt: HostRuntime) -> Result<(), Fail> {
+    let mut conf = two_tasks(rt.alloc(), 1)?;
+    assert!(rt; Kernel::can_open(&conf));
+    conf.tasks.tasks.push(TaskDecl {
+        id: 2,
+        pri: 3,
+        act: true,
+    })?;
+    assert!(rt; !Kernel::can_open(&conf));
+    Ok(())
+}
+
+#[test]
 fn a_signal_wakes_the_waiting_task(rt: HostRuntime) -> Result<(), Fail> {
     let mut kernel = opened(rt.alloc(), 0)?;
     assert!(rt; kernel.is_any_active());

@@ -1,4 +1,4 @@
-ghost use Rattle.std.specs.Prelude.{◌≡◌, ◌<◌, ◌-◌, ◌^◌, true, IfOk};
+ghost use Rattle.std.specs.Prelude.{◌≡◌, ◌↔◌, ◌<◌, ◌-◌, ◌^◌, IsTrue, true, IfOk};
 ghost use Rattle.std.specs.List.{list_any};
 ghost use Rattle.it_types.specs.Configuration.{kernel_conf};
 ghost use Rattle.spec_kernel.specs.Tasks.{is_active};
@@ -13,6 +13,7 @@ ghost use Rattle.spec_node.specs.NodeStep.{node_step};
 use crate::Parts;
 use crate::held::{held_answer, take_answer};
 use it_types::{Ctx, List, NoMemory, NodeConf, Out, Req, TaskId};
+use k_core::is_declarable;
 use std::alloc::Global;
 use std::marker::Model;
 
@@ -37,7 +38,20 @@ impl Model for Node {
 }
 
 impl Node {
-    /// The node with this configuration, before its first event.
+    /// Whether a node can be opened with this configuration: whether its kernel can be opened with what it declares.
+    pub fn can_open(conf: &NodeConf) -> bool
+        ensures { IsTrue result ↔ IsDeclarable (kernel_conf conf.now) }
+    {
+        is_declarable(
+            conf.tasks.as_slice(),
+            conf.sems.as_slice(),
+            conf.flags.as_slice(),
+            conf.dtqs.as_slice(),
+            conf.cycs.as_slice(),
+        )
+    }
+
+    /// The node with this configuration, before its first event. `can_open` tells whether there is one.
     pub fn open(alloc: Global, conf: &NodeConf) -> Result<Node, NoMemory>
         requires { IsDeclarable (kernel_conf conf.now) }
         ensures { IfOk result (λ n. n ≡ opened_node (kernel_conf conf.now) conf.now.addr) }
