@@ -68,8 +68,7 @@ named() {
 
 [ "$#" -gt 0 ] || set -- tests/planted/*.patch
 failed=0
-for name in $(for argument; do named "$argument"; done | sort -u); do
-    name=${name##*/}
-    planted "${name%.patch}" || failed=1
+for name in $(for argument; do named "$argument"; done | sed 's,.*/,,; s/\.patch$//' | sort -u); do
+    planted "$name" || failed=1
 done
 exit "$failed"
