@@ -19,12 +19,13 @@ copied() {
     done
 }
 
-# refusals CRATE LOG: the functions of the crate that are not proved, each with its goal. Those that only call such a
-# function are left out, and a proof that names what the patch took away, since that says nothing of the contract.
+# refusals CRATE LOG: the functions of the crate that are not proved, each with its goals, one a line. Those that only call
+# such a function are left out, and a proof that names what the patch took away, since that says nothing of the contract.
 refusals() {
     sed -nE -e '/which (is|are) not proved$|has no field|has no `|is not in scope|was not admitted/d' \
-        -e "s/^fn $1::([^ ]*): no proof: .* did not prove \`([^\`]*)\`.*/\1 \2/p" \
-        -e 's,^(\./)?proofs/([^:]*)/[A-Za-z]*\.antt:[0-9]+:[0-9]+: error: `([^`]*)`: .*,\2 \3,p' "$2" | sed 's,/,::,g'
+        -e "s/^fn $1::([^ ]*): no proof: .* did not prove (\`.*\`).*/\1 \2/p" \
+        -e 's,^(\./)?proofs/([^:]*)/[A-Za-z]*\.antt:[0-9]+:[0-9]+: error: `([^`]*)`: .*,\2 \3,p' "$2" |
+        tr -d '`,' | sed 's,/,::,g' | awk '{ for (i = 2; i <= NF; i++) print $1, $i }'
 }
 
 # planted NAME: plants the bug and checks the crate that is to refuse it.
