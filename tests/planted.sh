@@ -1,8 +1,10 @@
 #!/usr/bin/env bash
-# Plants each bug of tests/planted in a copy of the repository, and sees that the prover refuses it. It prints a line a
-# patch, `refused NAME: crate function goal` or `PROVED NAME`, and ends with status 1 where a patch does not apply, the
-# crate is still proved, or the check ended for another reason than a goal that is not proved. It takes half a minute or
-# more a patch, so it is no part of the gate. Its arguments are the names of patches, all if none is given.
+# Plants each bug of tests/planted in a copy of the repository, and sees that the prover refuses it, at the goal that the
+# patch names. Its arguments are names of patches, or of crates: of a crate all the patches that it is to refuse, which is
+# what a change of it asks for. With no argument it plants all. It prints a line a patch, `refused NAME: crate function
+# goal`, `PROVED NAME` or `FAILED NAME: why`, and ends with status 1 where a patch does not apply, the crate is still
+# proved, the check ended for another reason than a goal that is not proved, or the goal that the patch names is not among
+# those refused. It takes half a minute or more a patch, so it is no part of the gate.
 cd "$(dirname "$0")/.." || exit 1
 root=$PWD
 work=$(mktemp -d) || exit 1
@@ -17,18 +19,19 @@ copied() {
     done
 }
 
-# refusals LOG: the functions that are not proved, each with its goal. Those that only call such a function are left
-# out, and a proof that names what the patch took away, since that says nothing of the contract.
+# refusals CRATE LOG: the functions of the crate that are not proved, each with its goals, one a line. Those that only call
+# such a function are left out, and a proof that names what the patch took away, since that says nothing of the contract.
 refusals() {
     sed -nE -e '/which (is|are) not proved$|has no field|has no `|is not in scope|was not admitted/d' \
-        -e 's/^fn [a-z_]*::([^ ]*): no proof: .* did not prove `([^`]*)`.*/\1 \2/p' \
-        -e 's,^(\./)?proofs/([^:]*)/[A-Za-z]*\.antt:[0-9]+:[0-9]+: error: `([^`]*)`: .*,\2 \3,p' "$1" | sed 's,/,::,g'
+        -e "s/^fn $1::([^ ]*): no proof: .* did not prove (\`.*\`).*/\1 \2/p" \
+        -e 's,^(\./)?proofs/([^:]*)/[A-Za-z]*\.antt:[0-9]+:[0-9]+: error: `([^`]*)`: .*,\2 \3,p' "$2" |
+        tr -d '`,' | sed 's,/,::,g' | awk '{ for (i = 2; i <= NF; i++) print $1, $i }'
 }
 
 # planted NAME: plants the bug and checks the crate that is to refuse it.
 planted() {
-    local patch=$root/tests/planted/$1.patch copy=$work/$1 log=$work/$1.log crate status refused
-    crate=$(sed -n 's/^Refused by: \([a-z0-9_]*\),.*/\1/p' "$patch")
+    local patch=$root/tests/planted/$1.patch copy=$work/$1 log=$work/$1.log crate function goal status refused
+    IFS=', ' read -r crate function goal < <(sed -n 's/^Refused by: //p' "$patch")
     if [ ! -d "crates/${crate:-none}" ]; then
         echo "FAILED $1: no crate is named that refuses it"
         return 1
@@ -39,7 +42,7 @@ planted() {
     (cd "$copy/crates/$crate" && rt check >"$log" 2>&1)
     status=$?
     rm -rf "$copy"
-    refused=$(refusals "$log")
+    refused=$(refusals "$crate" "$log")
     if [ "$status" -eq 0 ]; then
         echo "PROVED $1"
         return 1
@@ -47,15 +50,26 @@ planted() {
         echo "FAILED $1: the check ended with status $status, for another reason than a goal that is not proved:"
         grep -m 3 error "$log" || tail -n 3 "$log"
         return 1
+    elif ! grep -qxF "$function $goal" <<<"$refused"; then
+        # A clause says more than an invariant.
+        echo "FAILED $1: refused at another goal: $crate $(grep -m 1 ' returns' <<<"$refused" || head -n 1 <<<"$refused")"
+        return 1
     fi
-    # A clause says more than an invariant.
-    echo "refused $1: $crate $(grep -m 1 ' returns' <<<"$refused" || head -n 1 <<<"$refused")"
+    echo "refused $1: $crate $function $goal"
+}
+
+# named NAME: the patches that an argument names, one a line.
+named() {
+    if [ -d "crates/$1" ]; then
+        grep -l "^Refused by: $1," tests/planted/*.patch
+    else
+        echo "$1"
+    fi
 }
 
 [ "$#" -gt 0 ] || set -- tests/planted/*.patch
 failed=0
-for name; do
-    name=${name##*/}
-    planted "${name%.patch}" || failed=1
+for name in $(for argument; do named "$argument"; done | sed 's,.*/,,; s/\.patch$//' | sort -u); do
+    planted "$name" || failed=1
 done
 exit "$failed"

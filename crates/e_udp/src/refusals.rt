@@ -35,10 +35,10 @@ impl Udps {
         ensures code { result ≡ first_refusal (refusals self.now (context_of by) (NReq.UdpCreCep cep port cbr)) }
         ensures rest { NetAtRest self.now }
     {
-        let _ = &self.calls;
+        let point = point_at(&self.points, cep);
         if is_wrong_id(cep.0) {
             Some(E_ID)
-        } else if point_at(&self.points, cep).is_some() {
+        } else if point.is_some() {
             Some(E_OBJ)
         } else if is_taken(&self.points, port) || cbr.0 != 0 {
             Some(E_PAR)
