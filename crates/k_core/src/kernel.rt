@@ -1,4 +1,4 @@
-ghost use Rattle.std.specs.Prelude.{◌≡◌, ◌≢◌, ◌<◌, ◌^◌, [], None};
+ghost use Rattle.std.specs.Prelude.{◌≡◌, ◌≢◌, ◌<◌, ◌^◌, [], None, ◌↔◌, IsTrue};
 ghost use Rattle.std.specs.List.{list_any};
 ghost use Rattle.it_types.specs.declared.id.TaskId.{TaskId as ATaskId};
 ghost use Rattle.it_types.specs.declared.context.Ctx.{Ctx};
@@ -58,6 +58,13 @@ impl Kernel {
         ensures { result ≡ list_any is_active self.now.tasks }
     {
         self.tasks.iter().any(is_active)
+    }
+
+    /// Whether the number is above that of each call that waited, as `call` and `block` ask for.
+    pub fn is_above(&self, no: CallNo) -> bool
+        ensures { IsTrue result ↔ (self.now.last_call < no.0) }
+    {
+        self.last_call.0 < no.0
     }
 
     /// Makes a call of the kernel under a number above that of each call that waited. A task calls only while it runs.

@@ -19,6 +19,3 @@ pub use declarable::is_declarable;
 pub use done::Done;
 pub use kernel::Kernel;
 pub use spec_kernel::{KAns, KEnd};
-
-#[cfg(test)]
-mod tests;

@@ -3,4 +3,10 @@
 #![tactic(auto)]
 
 #[cfg(test)]
+mod kernel;
+#[cfg(test)]
 mod scripts;
+#[cfg(test)]
+mod streams;
+#[cfg(test)]
+mod world;

@@ -1,5 +1,5 @@
-use s_script::{ReadBad, Why, conf_of, print_into, read};
 use it_types::{CepId, EndPt, KReq, NoMemory, ObjId, Req, SemDecl, TaskDecl, Tmo};
+use s_script::{ReadBad, Why, conf_of, print_into, read};
 use spec_script::{Decl, Line, Script};
 use std::alloc::Global;
 use std::test::*;

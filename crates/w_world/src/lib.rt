@@ -9,6 +9,3 @@ mod world;
 
 pub use spec_world::WErr;
 pub use world::World;
-
-#[cfg(test)]
-mod tests;

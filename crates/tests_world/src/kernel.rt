@@ -2,11 +2,11 @@ ghost use Rattle.std.specs.Prelude.{◌≡◌, ◌≤◌, true, IfOk};
 ghost use Rattle.spec_kernel.specs.Opening.{IsDeclarable};
 ghost use Rattle.k_core.specs.TimeOuts.{may_wait};
 
-use super::*;
 use it_types::{
     CallNo, Ctx, CycConf, E_CTX, E_OK, E_QOVR, E_TMOUT, Er, KConf, KReq, List, NoMemory, ObjId,
     SemDecl, SyncConf, TaskConf, TaskDecl, TaskId, Tmo,
 };
+use k_core::{Done, KAns, KEnd, Kernel};
 use std::alloc::Global;
 use std::process::Abort;
 use std::test::*;
@@ -76,7 +76,7 @@ fn call_by(rt: &impl Abort, kernel: &mut Kernel, task: TaskId, req: &KReq, no: u
     assert!(rt; task.0 != 0);
     assert_eq!(rt; kernel.running(), task);
     assert!(rt; kernel.now() < 1 << 60);
-    assert!(rt; kernel.last_call.0 < no);
+    assert!(rt; kernel.is_above(CallNo(no)));
     kernel.call(Ctx::Task(task), req, CallNo(no))
 }
 
@@ -137,7 +137,7 @@ fn block_by(rt: &impl Abort, kernel: &mut Kernel, task: TaskId, tmo: Tmo, no: u3
     assert!(rt; task.0 != 0);
     assert_eq!(rt; kernel.running(), task);
     assert!(rt; kernel.now() < 1 << 60);
-    assert!(rt; kernel.last_call.0 < no);
+    assert!(rt; kernel.is_above(CallNo(no)));
     kernel.block(task, tmo, CallNo(no));
 }
 
@@ -220,7 +220,7 @@ fn of_two_ends_of_a_tick_the_lower_number_is_first(rt: HostRuntime) -> Result<()
 #[test]
 fn a_handler_has_no_delay(rt: HostRuntime) -> Result<(), Fail> {
     let mut kernel = opened(rt.alloc(), 0)?;
-    assert!(rt; kernel.last_call.0 < 1);
+    assert!(rt; kernel.is_above(CallNo(1)));
     assert!(rt; kernel.now() < 1 << 60);
     let done = kernel.call(Ctx::Handler, &KReq::DlyTsk { ms: 1 }, CallNo(1));
     expect_code(&rt, &done, E_CTX);

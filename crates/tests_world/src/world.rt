@@ -2,7 +2,6 @@ ghost use Rattle.std.specs.Prelude.{◌≡◌, true, IfOk};
 ghost use Rattle.it_types.specs.Configuration.{bare_node, first_conf, kernel_conf, second_conf};
 ghost use Rattle.spec_kernel.specs.Opening.{IsDeclarable};
 
-use super::*;
 use it_types::{
     Ans, Bytes, CallNo, CepId, Conf, Ctx, E_BOVR, E_OK, EndPt, Entry, Er, Event, List, NoMemory,
     NodeConf, NodeId, ObjId, PackNo, Req, TaskDecl, TaskId, Tmo,
@@ -10,6 +9,7 @@ use it_types::{
 use std::alloc::Global;
 use std::process::Abort;
 use std::test::*;
+use w_world::{WErr, World};
 
 // A node with this address and tasks.
 fn node_with(alloc: Global, addr: u32, tasks: List<TaskDecl>) -> NodeConf

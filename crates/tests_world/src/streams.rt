@@ -1,4 +1,4 @@
-use super::{
+use it_io::{
     Failed, MemSink, MemSource, ReadErr, Sink, Source, StdSink, StdSource, WriteErr, read_all,
     write_all,
 };
