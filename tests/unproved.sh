@@ -1,7 +1,7 @@
 #!/usr/bin/env bash
 # Runs the program as it is written, before any proof: by the launcher in a checkout where nothing is built, on an example, a wrong script
-# and a faulty command line; and with one allocation failing, the first of those for the words, and a later one. Then a stand-in for `rt`
-# gives no answer: the launcher has it prove and build the program, which gets the same words and input.
+# and a faulty command line; and with one allocation failing, that of the list of words, the fifth, and a later one. Then a stand-in for
+# `rt` gives no answer: the launcher has it prove and build the program, which gets the same words and input.
 cd "$(dirname "$0")/.." || exit 1
 . tests/expecting.sh
 
@@ -46,7 +46,7 @@ expect_of() {
 launched example examples/exchange.itron sim
 launched wrong "$work/wrong" sim
 launched words examples/handoff.itron sim sim
-without_allocation first 1
+without_allocation words_memory 5
 without_allocation later 60
 wait
 expect_of example 'an example before any proof' 0 examples/exchange.txt "$notice"
@@ -54,7 +54,7 @@ expect_of wrong 'a wrong script before any proof' 3 "$work/empty" "${notice}line
 "
 expect_of words 'a faulty command line before any proof' 2 "$work/empty" "${notice}usage: itron sim, audit, shape, run or gen N
 "
-expect_of first 'no memory for the words' 7 "$work/empty" 'out of memory
+expect_of words_memory 'no memory for the words' 7 "$work/empty" 'out of memory
 '
 expect_of later 'no memory later on' 7 "$work/empty" 'out of memory
 '
