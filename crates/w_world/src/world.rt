@@ -74,7 +74,7 @@ impl World {
     ghost use Rattle.std.specs.Prelude.{◌↔◌, IsTrue};
     ghost use Rattle.laws_world.specs.Taken.{CanOpen};
 
-    /// Whether two nodes can be opened with this configuration. What a node declares is in these ranges:
+    /// Whether two nodes can be opened with this configuration: where what each of them declares is in these ranges.
     ///
     /// - each id of a kind is from 1 to 16, and is declared once;
     /// - a task has a priority from 1 to 16 and is active from the start;
