@@ -3,8 +3,8 @@ ghost use Rattle.it_types.specs.Configuration.{bare_node, first_conf, kernel_con
 ghost use Rattle.spec_kernel.specs.Opening.{IsDeclarable};
 
 use it_types::{
-    Ans, Bytes, CallNo, CepId, Conf, Ctx, E_BOVR, E_OK, EndPt, Entry, Er, Event, List, NoMemory,
-    NodeConf, NodeId, ObjId, PackNo, Req, TaskDecl, TaskId, Tmo,
+    Ans, Bytes, CallNo, CepId, Conf, Ctx, E_BOVR, E_OK, EndPt, Entry, Er, Event, FlgDecl, List,
+    NoMemory, NodeConf, NodeId, ObjId, PackNo, Req, SemDecl, TaskDecl, TaskId, Tmo,
 };
 use std::alloc::Global;
 use std::process::Abort;
@@ -120,6 +120,111 @@ fn refuse_what_is_not_admitted(rt: &impl Abort, alloc: Global, world: &mut World
     ] {
         refuse(rt, alloc, world, ev, WErr::NotAdmitted);
     }
+}
+
+// The world of any configuration with which one can be opened.
+fn opened(alloc: Global, conf: &Conf) -> Result<Option<World>, NoMemory> {
+    if World::can_open(conf) {
+        Ok(Some(World::open(alloc, conf)?))
+    } else {
+        Ok(None)
+    }
+}
+
+// The node can be opened beside a bare one, as the first and as the second, or it can't.
+fn expect_opening(
+    rt: &impl Abort,
+    alloc: Global,
+    node: &NodeConf,
+    can: bool,
+) -> Result<(), NoMemory> {
+    let first = Conf {
+        nodes: [node.copy(alloc)?, NodeConf::new(alloc, 0x0a000002)],
+    };
+    assert_eq!(rt; opened(alloc, &first)?.is_some(), can);
+    let second = Conf {
+        nodes: [NodeConf::new(alloc, 0x0a000002), node.copy(alloc)?],
+    };
+    assert_eq!(rt; opened(alloc, &second)?.is_some(), can);
+    Ok(())
+}
+
+fn task(id: u32, pri: u32, act: bool) -> TaskDecl {
+    TaskDecl { id, pri, act }
+}
+
+fn semaphore(id: u32, pri: bool, init: u32, max: u32) -> SemDecl {
+    SemDecl { id, pri, init, max }
+}
+
+// A node with the task 1 and this one.
+fn expect_task(rt: &impl Abort, alloc: Global, decl: TaskDecl, can: bool) -> Result<(), NoMemory> {
+    let mut node = NodeConf::new(alloc, 0x0a000001);
+    node.tasks = List::of(alloc, &[task(1, 1, true), decl])?;
+    expect_opening(rt, alloc, &node, can)
+}
+
+// A node with the semaphore 1 and this one.
+fn expect_semaphore(
+    rt: &impl Abort,
+    alloc: Global,
+    decl: SemDecl,
+    can: bool,
+) -> Result<(), NoMemory> {
+    let mut node = NodeConf::new(alloc, 0x0a000001);
+    node.sems = List::of(alloc, &[semaphore(1, false, 0, 1), decl])?;
+    expect_opening(rt, alloc, &node, can)
+}
+
+#[test]
+fn tasks_are_declared_in_their_ranges(rt: HostRuntime) -> Result<(), Fail> {
+    for (decl, can) in [
+        (task(2, 1, true), true),
+        (task(16, 16, true), true),
+        (task(0, 1, true), false),
+        (task(17, 1, true), false),
+        (task(1, 2, true), false),
+        (task(2, 0, true), false),
+        (task(2, 17, true), false),
+        (task(2, 1, false), false),
+    ] {
+        expect_task(&rt, rt.alloc(), decl, can)?;
+    }
+    Ok(())
+}
+
+#[test]
+fn semaphores_are_declared_in_their_ranges(rt: HostRuntime) -> Result<(), Fail> {
+    for (decl, can) in [
+        (semaphore(2, false, 0, 1), true),
+        (semaphore(16, false, 65535, 65535), true),
+        (semaphore(0, false, 0, 1), false),
+        (semaphore(17, false, 0, 1), false),
+        (semaphore(1, false, 0, 1), false),
+        (semaphore(2, true, 0, 1), false),
+        (semaphore(2, false, 2, 1), false),
+        (semaphore(2, false, 0, 0), false),
+        (semaphore(2, false, 0, 65536), false),
+    ] {
+        expect_semaphore(&rt, rt.alloc(), decl, can)?;
+    }
+    Ok(())
+}
+
+#[test]
+fn flags_are_not_declared(rt: HostRuntime) -> Result<(), Fail> {
+    let mut node = NodeConf::new(rt.alloc(), 0x0a000001);
+    expect_opening(&rt, rt.alloc(), &node, true)?;
+    let flag = FlgDecl {
+        id: 1,
+        pri: false,
+        many: false,
+        clr: false,
+        init: 0,
+    };
+    node.flags.push(flag)?;
+    expect_opening(&rt, rt.alloc(), &node, false)?;
+    Ok(())
 }
 
 #[test]

@@ -71,7 +71,23 @@ fn entry_of(ev: Event, out: Out) -> Entry
 }
 
 impl World {
-    /// Two nodes with this configuration, no packets, and the empty history.
+    ghost use Rattle.std.specs.Prelude.{◌↔◌, IsTrue};
+    ghost use Rattle.laws_world.specs.Taken.{CanOpen};
+
+    /// Whether two nodes can be opened with this configuration: where what each of them declares is in these ranges.
+    ///
+    /// - each id of a kind is from 1 to 16, and is declared once;
+    /// - a task has a priority from 1 to 16 and is active from the start;
+    /// - a semaphore has a maximum from 1 to 65,535 and begins with no more than that, and tasks wait on it by arrival;
+    /// - event flags, data queues and cyclic handlers can't be declared yet.
+    pub fn can_open(conf: &Conf) -> bool
+        ensures { IsTrue result ↔ CanOpen conf.now }
+    {
+        conf.nodes.iter().all(Node::can_open)
+    }
+
+    /// Two nodes with this configuration, no packets, and the empty history. `can_open` is the test of whether they can be
+    /// opened with it.
     pub fn open(alloc: Global, conf: &Conf) -> Result<World, NoMemory>
         requires first { IsDeclarable (kernel_conf (first_conf conf.now)) }
         requires second { IsDeclarable (kernel_conf (second_conf conf.now)) }
