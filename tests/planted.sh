@@ -1,9 +1,10 @@
 #!/usr/bin/env bash
 # Plants each bug of tests/planted in a copy of the repository, and sees that the prover refuses it, at the goal that the
-# patch names. Its arguments are names of patches, or of crates: of a crate all the patches that it is to refuse, which is
-# what a change of it asks for. With no argument it plants all. It prints a line a patch, `refused NAME: crate function
-# goal`, `PROVED NAME` or `FAILED NAME: why`, and ends with status 1 where a patch does not apply, the crate is still
-# proved, the check ended for another reason than a goal that is not proved, or the goal that the patch names is not among
+# patch names, or, where the patch names a script of tests/ and what it tries, that this test of the built program fails.
+# Its arguments are names of patches, or of crates: of a crate all the patches that it is to refuse, which is what a change
+# of it asks for. With no argument it plants all. It prints a line a patch, `refused NAME: crate function goal`, `PROVED
+# NAME` or `FAILED NAME: why`, and ends with status 1 where a patch does not apply, the crate is still proved or the test
+# passed, the check ended for another reason than a goal that is not proved, or the goal that the patch names is not among
 # those refused. It takes half a minute or more a patch, so it is no part of the gate.
 cd "$(dirname "$0")/.." || exit 1
 root=$PWD
@@ -58,6 +59,28 @@ planted() {
     echo "refused $1: $crate $function $goal"
 }
 
+# planted_for_test NAME: plants a bug that no clause refuses, builds the program, and runs the script that is to refuse it.
+planted_for_test() {
+    local patch=$root/tests/planted/$1.patch copy=$work/$1 log=$work/$1.log script tried
+    read -r script tried < <(sed -n 's/^Refused by: \([^,]*\), /\1 /p' "$patch")
+    if ! copied itron "$copy" || ! (cd "$copy" && git init -q && git apply "$patch" && git add -A); then
+        echo "FAILED $1: the patch does not apply"
+        return 1
+    fi
+    (cd "$copy/crates/itron" && rt run </dev/null >"$log" 2>&1)
+    if [ ! -x "$copy/crates/itron/out/itron" ]; then
+        echo "FAILED $1: the program is not built"
+        return 1
+    fi
+    (cd "$copy" && "$script" >"$log" 2>&1)
+    rm -rf "$copy"
+    if ! grep -q "^FAILED $tried:" "$log"; then
+        echo "PROVED $1: $script passed: $tried"
+        return 1
+    fi
+    echo "refused $1: $script: $tried"
+}
+
 # named NAME: the patches that an argument names, one a line.
 named() {
     if [ -d "crates/$1" ]; then
@@ -70,6 +93,10 @@ named() {
 [ "$#" -gt 0 ] || set -- tests/planted/*.patch
 failed=0
 for name in $(for argument; do named "$argument"; done | sed 's,.*/,,; s/\.patch$//' | sort -u); do
-    planted "$name" || failed=1
+    if grep -q '^Refused by: tests/' "tests/planted/$name.patch"; then
+        planted_for_test "$name" || failed=1
+    else
+        planted "$name" || failed=1
+    fi
 done
 exit "$failed"
