@@ -1,5 +1,6 @@
 use super::*;
 use it_io::{MemSink, MemSource};
+use s_script::Why;
 use std::alloc::Global;
 use std::process::Abort;
 use std::test::*;
