@@ -1,6 +1,5 @@
-use it_types::{CepId, EndPt, KReq, NoMemory, ObjId, Req, SemDecl, TaskDecl, Tmo};
+use it_types::{NoMemory, SemDecl, TaskDecl};
 use s_script::{ReadBad, Why, conf_of, print_into, read};
-use spec_script::{Decl, Line, Script};
 use std::alloc::Global;
 use std::test::*;
 
@@ -13,114 +12,6 @@ fn prints_what_it_read(rt: HostRuntime) -> Result<(), Fail> {
     let mut out = Vec::new(rt.alloc());
     print_into(rt.alloc(), &script, &mut out)?;
     assert_eq!(rt; out.as_slice(), SCRIPT);
-    Ok(())
-}
-
-/// The call, where it is one of the kernel's.
-fn kernel_call(req: &Req) -> Option<KReq> {
-    match req {
-        Req::DlyTsk { ms } => Some(KReq::DlyTsk { ms: *ms }),
-        Req::SigSem { sem } => Some(KReq::SigSem { sem: *sem }),
-        Req::TwaiSem { sem, tmo } => Some(KReq::TwaiSem {
-            sem: *sem,
-            tmo: *tmo,
-        }),
-        _ => None,
-    }
-}
-
-/// The kernel's calls of the task with the id.
-fn calls_of(alloc: Global, script: &Script, id: u32) -> Result<Vec<KReq>, NoMemory> {
-    let mut calls = Vec::new(alloc);
-    for decl in script.nodes[0].decls.as_slice() {
-        if let Decl::Task(task, body) = decl {
-            if task.id == id {
-                for line in body.lines.as_slice() {
-                    let Line::Call { req } = line;
-                    if let Some(call) = kernel_call(req) {
-                        calls.push(call)?;
-                    }
-                }
-            }
-        }
-    }
-    Ok(calls)
-}
-
-fn wait(sem: u32, tmo: Tmo) -> KReq {
-    KReq::TwaiSem {
-        sem: ObjId(sem),
-        tmo,
-    }
-}
-
-#[test]
-fn reads_each_call(rt: HostRuntime) -> Result<(), Fail> {
-    let script = read(rt.alloc(), SCRIPT)?;
-    let first = [
-        wait(1, Tmo::Fevr),
-        wait(2, Tmo::Pol),
-        wait(0, Tmo::Ms(1)),
-        wait(4294967295, Tmo::Ms(1000000)),
-    ];
-    let second = [
-        KReq::DlyTsk { ms: 0 },
-        KReq::SigSem { sem: ObjId(1) },
-        KReq::DlyTsk { ms: 1000000 },
-    ];
-    assert_eq!(rt;
-        calls_of(rt.alloc(), &script, 1)?.as_slice(),
-        first.as_slice()
-    );
-    assert_eq!(rt;
-        calls_of(rt.alloc(), &script, 2)?.as_slice(),
-        second.as_slice()
-    );
-    Ok(())
-}
-
-/// Who sends how many bytes where, and how long each call may wait, in the bodies of node 1; and all bytes that are sent.
-fn sendings(
-    alloc: Global,
-    script: &Script,
-) -> Result<(Vec<(CepId, usize, EndPt, Tmo)>, Vec<u8>), NoMemory> {
-    let mut calls = Vec::new(alloc);
-    let mut sent = Vec::new(alloc);
-    for decl in script.nodes[1].decls.as_slice() {
-        if let Decl::Task(_, body) = decl {
-            for line in body.lines.as_slice() {
-                let Line::Call { req } = line;
-                if let Req::UdpSndDat {
-                    cep,
-                    dest,
-                    load,
-                    tmo,
-                } = req
-                {
-                    calls.push((*cep, load.as_slice().len(), *dest, *tmo))?;
-                    sent.extend_from_slice(load.as_slice())?;
-                }
-            }
-        }
-    }
-    Ok((calls, sent))
-}
-
-#[test]
-fn reads_data(rt: HostRuntime) -> Result<(), Fail> {
-    let script = read(rt.alloc(), SCRIPT)?;
-    let (calls, sent) = sendings(rt.alloc(), &script)?;
-    let nowhere = EndPt { addr: 0, port: 0 };
-    let echo = EndPt {
-        addr: 0xc0a800ff,
-        port: 7,
-    };
-    let expected = [
-        (CepId(1), 0, nowhere, Tmo::Nblk),
-        (CepId(2), 4, echo, Tmo::Ms(9)),
-    ];
-    assert_eq!(rt; calls.as_slice(), expected.as_slice());
-    assert_eq!(rt; sent.as_slice(), [0x68, 0x69, 0x0a, 0xff].as_slice());
     Ok(())
 }
 
