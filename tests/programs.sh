@@ -196,6 +196,16 @@ expect 'a closed output' 5 "$work/empty" 'write fault
 echo $? >"$work/status"
 expect 'a full output' 5 "$work/empty" 'write fault
 '
+# A file that may have 1,024 bytes takes these, and then the write fails.
+(
+    ulimit -f 1
+    trap '' XFSZ
+    ./itron sim <examples/full_queue.itron >"$work/out" 2>"$work/err"
+    echo $? >"$work/status"
+)
+head -c 1024 examples/full_queue.txt >"$work/want"
+expect 'an output that fails in its middle' 5 "$work/want" 'write fault
+'
 ./itron simulate <&- >"$work/out" 2>"$work/err"
 echo $? >"$work/status"
 expect 'faulty words before a closed input' 2 "$work/empty" "$usage"

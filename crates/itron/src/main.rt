@@ -3,8 +3,6 @@
 
 mod output;
 mod status;
-#[cfg(test)]
-mod tests;
 mod top;
 mod words;
 

@@ -1,5 +1,4 @@
-ghost use Rattle.std.specs.Prelude.{◌≡◌, ◌≤◌, true, IfOk};
-ghost use Rattle.spec_kernel.specs.Opening.{IsDeclarable};
+ghost use Rattle.std.specs.Prelude.{◌≡◌, true};
 ghost use Rattle.k_core.specs.TimeOuts.{may_wait};
 
 use it_types::{
@@ -14,10 +13,7 @@ use std::test::*;
 const SEM: ObjId = ObjId(1);
 
 // Two tasks of priorities 1 and 2, and a semaphore with a count of at most 1.
-fn two_tasks(alloc: Global, init: u32) -> Result<KConf, NoMemory>
-    requires { init ≤ 1 }
-    ensures { IfOk result (λ conf. IsDeclarable conf) }
-{
+fn two_tasks(alloc: Global, init: u32) -> Result<KConf, NoMemory> {
     let first = TaskDecl {
         id: 1,
         pri: 1,
@@ -61,10 +57,10 @@ fn wait(tmo: Tmo) -> KReq {
     KReq::TwaiSem { sem: SEM, tmo }
 }
 
-fn opened(alloc: Global, init: u32) -> Result<Kernel, NoMemory>
-    requires { init ≤ 1 }
-{
-    Kernel::open(alloc, &two_tasks(alloc, init)?)
+fn opened(rt: &impl Abort, alloc: Global, init: u32) -> Result<Kernel, NoMemory> {
+    let conf = two_tasks(alloc, init)?;
+    assert!(rt; Kernel::can_open(&conf));
+    Kernel::open(alloc, &conf)
 }
 
 fn expect_running(rt: &impl Abort, kernel: &Kernel, task: TaskId) {
@@ -160,7 +156,7 @@ fn an_id_is_declared_once(rt: HostRuntime) -> Result<(), Fail> {
 
 #[test]
 fn a_signal_wakes_the_waiting_task(rt: HostRuntime) -> Result<(), Fail> {
-    let mut kernel = opened(rt.alloc(), 0)?;
+    let mut kernel = opened(&rt, rt.alloc(), 0)?;
     assert!(rt; kernel.is_any_active());
     let done = call_by(&rt, &mut kernel, FIRST, &wait(Tmo::Fevr), 1);
     expect_pends(&rt, &done);
@@ -175,7 +171,7 @@ fn a_signal_wakes_the_waiting_task(rt: HostRuntime) -> Result<(), Fail> {
 
 #[test]
 fn a_signal_above_the_maximum_is_refused(rt: HostRuntime) -> Result<(), Fail> {
-    let mut kernel = opened(rt.alloc(), 1)?;
+    let mut kernel = opened(&rt, rt.alloc(), 1)?;
     tick_on(&rt, &mut kernel, 1);
     assert_eq!(rt; kernel.now(), 1);
     let done = call_by(&rt, &mut kernel, FIRST, &SIGNAL, 1);
@@ -185,7 +181,7 @@ fn a_signal_above_the_maximum_is_refused(rt: HostRuntime) -> Result<(), Fail> {
 
 #[test]
 fn a_delay_and_a_time_out_end_at_their_ticks(rt: HostRuntime) -> Result<(), Fail> {
-    let mut kernel = opened(rt.alloc(), 0)?;
+    let mut kernel = opened(&rt, rt.alloc(), 0)?;
     let done = call_by(&rt, &mut kernel, FIRST, &wait(Tmo::Ms(5)), 1);
     expect_pends(&rt, &done);
     let done = call_by(&rt, &mut kernel, SECOND, &KReq::DlyTsk { ms: 2 }, 2);
@@ -206,7 +202,7 @@ fn a_delay_and_a_time_out_end_at_their_ticks(rt: HostRuntime) -> Result<(), Fail
 
 #[test]
 fn of_two_ends_of_a_tick_the_lower_number_is_first(rt: HostRuntime) -> Result<(), Fail> {
-    let mut kernel = opened(rt.alloc(), 0)?;
+    let mut kernel = opened(&rt, rt.alloc(), 0)?;
     let delay = KReq::DlyTsk { ms: 0 };
     call_by(&rt, &mut kernel, FIRST, &delay, 1);
     call_by(&rt, &mut kernel, SECOND, &delay, 2);
@@ -219,7 +215,7 @@ fn of_two_ends_of_a_tick_the_lower_number_is_first(rt: HostRuntime) -> Result<()
 
 #[test]
 fn a_handler_has_no_delay(rt: HostRuntime) -> Result<(), Fail> {
-    let mut kernel = opened(rt.alloc(), 0)?;
+    let mut kernel = opened(&rt, rt.alloc(), 0)?;
     assert!(rt; kernel.is_above(CallNo(1)));
     assert!(rt; kernel.now() < 1 << 60);
     let done = kernel.call(Ctx::Handler, &KReq::DlyTsk { ms: 1 }, CallNo(1));
@@ -229,7 +225,7 @@ fn a_handler_has_no_delay(rt: HostRuntime) -> Result<(), Fail> {
 
 #[test]
 fn a_wait_outside_ends_by_time(rt: HostRuntime) -> Result<(), Fail> {
-    let mut kernel = opened(rt.alloc(), 0)?;
+    let mut kernel = opened(&rt, rt.alloc(), 0)?;
     block_by(&rt, &mut kernel, FIRST, Tmo::Ms(5), 1);
     expect_running(&rt, &kernel, SECOND);
     tick_on(&rt, &mut kernel, 5);
@@ -245,7 +241,7 @@ fn a_wait_outside_ends_by_time(rt: HostRuntime) -> Result<(), Fail> {
 
 #[test]
 fn a_wait_outside_ends_from_outside(rt: HostRuntime) -> Result<(), Fail> {
-    let mut kernel = opened(rt.alloc(), 0)?;
+    let mut kernel = opened(&rt, rt.alloc(), 0)?;
     block_by(&rt, &mut kernel, FIRST, Tmo::Ms(5), 1);
     let done = call_by(&rt, &mut kernel, SECOND, &SIGNAL, 2);
     expect_code(&rt, &done, E_OK);

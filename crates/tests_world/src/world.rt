@@ -1,7 +1,3 @@
-ghost use Rattle.std.specs.Prelude.{◌≡◌, true, IfOk};
-ghost use Rattle.it_types.specs.Configuration.{bare_node, first_conf, kernel_conf, second_conf};
-ghost use Rattle.spec_kernel.specs.Opening.{IsDeclarable};
-
 use it_types::{
     Ans, Bytes, CallNo, CepId, Conf, Ctx, E_BOVR, E_OK, EndPt, Entry, Er, Event, FlgDecl, List,
     NoMemory, NodeConf, NodeId, ObjId, PackNo, Req, SemDecl, TaskDecl, TaskId, Tmo,
@@ -12,17 +8,13 @@ use std::test::*;
 use w_world::{WErr, World};
 
 // A node with this address and tasks.
-fn node_with(alloc: Global, addr: u32, tasks: List<TaskDecl>) -> NodeConf
-    ensures { result ≡ record bare_node { addr = addr; tasks = tasks } }
-{
+fn node_with(alloc: Global, addr: u32, tasks: List<TaskDecl>) -> NodeConf {
     let mut node = NodeConf::new(alloc, addr);
     node.tasks = tasks;
     node
 }
 
-fn active(id: u32) -> TaskDecl
-    ensures { result ≡ record { id = id; pri = id; act = true } }
-{
+fn active(id: u32) -> TaskDecl {
     TaskDecl {
         id,
         pri: id,
@@ -31,10 +23,7 @@ fn active(id: u32) -> TaskDecl
 }
 
 // Node 0 at 10.0.0.1 with the tasks 1 and 2, of which 1 is the more urgent, and node 1 at 10.0.0.2 with the task 1.
-fn two_nodes(alloc: Global) -> Result<Conf, NoMemory>
-    ensures first { IfOk result (λ conf. IsDeclarable (kernel_conf (first_conf conf))) }
-    ensures second { IfOk result (λ conf. IsDeclarable (kernel_conf (second_conf conf))) }
-{
+fn two_nodes(alloc: Global) -> Result<Conf, NoMemory> {
     let both = List::from_vec(vec![in alloc; active(1), active(2)]?);
     let one = List::from_vec(vec![in alloc; active(1)]?);
     Ok(Conf {
@@ -43,6 +32,12 @@ fn two_nodes(alloc: Global) -> Result<Conf, NoMemory>
             node_with(alloc, 0x0a000002, one),
         ],
     })
+}
+
+fn two_nodes_opened(rt: &impl Abort, alloc: Global) -> Result<World, NoMemory> {
+    let conf = two_nodes(alloc)?;
+    assert!(rt; World::can_open(&conf));
+    World::open(alloc, &conf)
 }
 
 fn call(node: u8, task: u32, request: Req) -> Event {
@@ -230,8 +225,7 @@ fn flags_are_not_declared(rt: HostRuntime) -> Result<(), Fail> {
 #[test]
 fn refused_events_change_nothing(rt: HostRuntime) -> Result<(), Fail> {
     let alloc = rt.alloc();
-    let conf = two_nodes(alloc)?;
-    let mut world = World::open(alloc, &conf)?;
+    let mut world = two_nodes_opened(&rt, alloc)?;
     refuse(
         &rt,
         alloc,
@@ -301,8 +295,7 @@ const RECEIVE: Req = Req::UdpRcvDat {
 #[test]
 fn a_datagram_reaches_the_other_node(rt: HostRuntime) -> Result<(), Fail> {
     let alloc = rt.alloc();
-    let conf = two_nodes(alloc)?;
-    let mut world = World::open(alloc, &conf)?;
+    let mut world = two_nodes_opened(&rt, alloc)?;
     take(&rt, alloc, &mut world, call(0, 1, create(1000)));
     take(&rt, alloc, &mut world, call(0, 1, send_hi(alloc)?));
     expect_answer(&rt, &world, Er(2), b"");
