@@ -1,4 +1,6 @@
-pub mod Spelling
+pub mod Requests
+pub mod Table
+pub mod Lends
 pub mod Address
 pub mod Configuration
 pub mod Callers

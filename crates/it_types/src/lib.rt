@@ -13,12 +13,13 @@ mod id;
 mod kernel_request;
 mod list;
 mod mark;
-mod network_request;
 mod no_memory;
 mod node_conf;
+mod refusing;
 mod request;
 mod small;
-mod spelling;
+mod synced;
+mod table;
 mod timeout;
 pub mod words;
 
@@ -28,8 +29,8 @@ pub use conf::{CycConf, CycDecl, DtqDecl, FlgDecl, KConf, SemDecl, SyncConf, Tas
 pub use context::Ctx;
 pub use entry::{CallEnd, Entry, Out};
 pub use er::{
-    E_BOVR, E_CLS, E_CTX, E_DLT, E_ID, E_ILUSE, E_NOEXS, E_OBJ, E_OK, E_PAR, E_QOVR, E_RLWAI,
-    E_SYS, E_TMOUT, E_WBLK, Er, code_numbers,
+    E_BOVR, E_CLS, E_CTX, E_DLT, E_ID, E_ILUSE, E_NOEXS, E_NOMEM, E_NOSPT, E_OBJ, E_OK, E_PAR,
+    E_QOVR, E_RLWAI, E_RSATR, E_SYS, E_TMOUT, E_WBLK, Er, code_numbers,
 };
 pub use event::Event;
 pub use handler::{FnCode, Handler};
@@ -39,10 +40,10 @@ pub use id::{
 pub use kernel_request::KReq;
 pub use list::List;
 pub use mark::{Dir, Mark};
-pub use network_request::NReq;
 pub use no_memory::NoMemory;
 pub use node_conf::{Conf, NodeConf};
 pub use request::Req;
 pub use small::Small;
-pub use spelling::spell_into;
+pub use synced::Synced;
+pub use table::{PutErr, Table};
 pub use timeout::Tmo;
