@@ -10,8 +10,8 @@ use Rattle.it_types.specs.declared.id.CallNo.{CallNo}
 use Rattle.it_types.specs.declared.er.Er.{Er}
 use Rattle.it_types.specs.declared.timeout.Tmo.{Tmo}
 use Rattle.it_types.specs.declared.context.Ctx.{Ctx}
-use Rattle.it_types.specs.declared.network_request.NReq.{NReq}
-use Rattle.it_types.specs.declared.network_request.NReq.TheVariants.{UdpCreCep, UdpSndDat, UdpRcvDat}
+use Rattle.it_types.specs.declared.request.Req.{Req}
+use Rattle.it_types.specs.declared.request.Req.TheVariants.{UdpCreCep, UdpSndDat, UdpRcvDat}
 use Rattle.it_types.specs.Callers.{caller, is_poll}
 use Rattle.spec_lists.specs.Tables.{get, change}
 use Rattle.spec_lists.specs.Refusal.{first_refusal}
@@ -84,33 +84,34 @@ received_rests : (net : PlainNet) (task : TaskId) (cep : CepId) (len : ℕ) (tmo
 received_rests net task cep len tmo number [] e rest = accepted_rests net task cep len tmo number e rest
 received_rests net task cep len tmo number (d ∷ ds) e rest = still_rests net (change net.udp cep.0 without_oldest) (taken_no_more net.udp cep.0 d ds e) rest
 
-carried_out_rests : (net : PlainNet) (ctx : Ctx) (request : NReq) (number : CallNo) → NetAtRest net → NetAtRest (carried_out net ctx request number).net
+carried_out_rests : (net : PlainNet) (ctx : Ctx) (request : Req) (number : CallNo) → NetAtRest net → NetAtRest (carried_out net ctx request number).net
 carried_out_rests net ctx (UdpCreCep cep port cbr) number rest = still_rests net _ (made_no_more net.udp cep.0 _ refl) rest
 carried_out_rests net ctx (UdpSndDat cep dest load tmo) number rest = rest
 carried_out_rests net ctx (UdpRcvDat cep len tmo) number rest = received_rests net (caller ctx) cep len tmo number (queue_of (get net.udp cep.0)) refl rest
+carried_out_rests net ctx _ number rest = rest
 
 unless_refused_rests : (net : PlainNet) (refusal : Option Er) (o : NetOutcome) → NetAtRest net → NetAtRest o.net → NetAtRest (unless_refused refusal net o).net
 unless_refused_rests net None o before after = after
 unless_refused_rests net (Some code) o before after = before
 
-pub row_rests : (net : PlainNet) (ctx : Ctx) (request : NReq) (number : CallNo) → NetAtRest net → NetAtRest (row net ctx request number).net
+pub row_rests : (net : PlainNet) (ctx : Ctx) (request : Req) (number : CallNo) → NetAtRest net → NetAtRest (row net ctx request number).net
 row_rests net ctx request number rest =
     unless_refused_rests net (first_refusal (refusals net ctx request)) (carried_out net ctx request number) rest (carried_out_rests net ctx request number rest)
 
 -- a call has the outcome of its row
-pub net_call_row : (net : PlainNet) (ctx : Ctx) (request : NReq) (number : CallNo) → NetAtRest net → net_call net ctx request number ≡ row net ctx request number
+pub net_call_row : (net : PlainNet) (ctx : Ctx) (request : Req) (number : CallNo) → NetAtRest net → net_call net ctx request number ≡ row net ctx request number
 unfolding net_call
 net_call_row net ctx request number rest = net_settled_none (row net ctx request number) (row_rests net ctx request number rest)
 
 -- a refused call changes nothing
-pub net_call_refused : (net : PlainNet) (ctx : Ctx) (request : NReq) (number : CallNo) (code : Er)
+pub net_call_refused : (net : PlainNet) (ctx : Ctx) (request : Req) (number : CallNo) (code : Er)
     → NetAtRest net
     → first_refusal (refusals net ctx request) ≡ Some code
     → net_call net ctx request number ≡ answered net code []
 net_call_refused net ctx request number code rest e = net_call_row net ctx request number rest ∙ rw e refl
 
 -- a call that nothing refuses is carried out
-pub net_call_carried_out : (net : PlainNet) (ctx : Ctx) (request : NReq) (number : CallNo)
+pub net_call_carried_out : (net : PlainNet) (ctx : Ctx) (request : Req) (number : CallNo)
     → NetAtRest net
     → first_refusal (refusals net ctx request) ≡ None
     → net_call net ctx request number ≡ carried_out net ctx request number

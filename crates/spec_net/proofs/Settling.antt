@@ -4,7 +4,7 @@ use Rattle.std.proofs.lemmas.List.{nil_from_length, append-nil}
 use Rattle.it_types.specs.declared.id.CallNo.{CallNo}
 use Rattle.it_types.specs.declared.er.Er.{Er}
 use Rattle.it_types.specs.declared.context.Ctx.{Ctx}
-use Rattle.it_types.specs.declared.network_request.NReq.{NReq}
+use Rattle.it_types.specs.declared.request.Req.{Req}
 use Rattle.spec_lists.proofs.Firsts.{cases_of_first, take_first-shorter}
 use Rattle.spec_net.specs.PlainNet.{PlainNet, NetOutcome}
 use Rattle.spec_net.specs.NetSettle.{is_ready, first_ready, NetAtRest, freed, settle, net_settled}
@@ -47,7 +47,7 @@ unfolding net_settled
 net_settled_rests o = settle_rests (length o.net.calls) o.net (omega arith)
 
 -- no call is ready after a call of the network part
-pub net_call_rests : (net : PlainNet) (ctx : Ctx) (request : NReq) (number : CallNo) → NetAtRest (net_call net ctx request number).net
+pub net_call_rests : (net : PlainNet) (ctx : Ctx) (request : Req) (number : CallNo) → NetAtRest (net_call net ctx request number).net
 unfolding net_call
 net_call_rests net ctx request number = net_settled_rests (row net ctx request number)
 

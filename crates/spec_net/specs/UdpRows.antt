@@ -8,12 +8,11 @@ use Rattle.it_types.specs.declared.id.CepId.{CepId}
 use Rattle.it_types.specs.declared.id.CallNo.{CallNo}
 use Rattle.it_types.specs.declared.id.EndPt.{EndPt}
 use Rattle.it_types.specs.declared.er.Er.{Er}
-use Rattle.it_types.specs.declared.er.TheConstants.{E_OK, E_PAR, E_ID, E_CTX, E_OBJ, E_NOEXS, E_TMOUT}
+use Rattle.it_types.specs.declared.er.TheConstants.{E_OK, E_NOSPT, E_PAR, E_ID, E_CTX, E_OBJ, E_NOEXS, E_TMOUT}
 use Rattle.it_types.specs.declared.timeout.Tmo.{Tmo}
-use Rattle.it_types.specs.declared.timeout.Tmo.TheVariants as timeouts
 use Rattle.it_types.specs.declared.context.Ctx.{Ctx}
-use Rattle.it_types.specs.declared.network_request.NReq.{NReq}
-use Rattle.it_types.specs.declared.network_request.NReq.TheVariants.{UdpCreCep, UdpSndDat, UdpRcvDat}
+use Rattle.it_types.specs.declared.request.Req.{Req}
+use Rattle.it_types.specs.declared.request.Req.TheVariants.{UdpCreCep, UdpSndDat, UdpRcvDat}
 use Rattle.it_types.specs.Callers.{caller, is_handler, is_nblk, is_poll}
 use Rattle.spec_lists.specs.Tables.{get, change}
 use Rattle.spec_lists.specs.Refusal.{first_refusal}
@@ -59,7 +58,7 @@ abbrev pub greatest_length : ℕ
 greatest_length = 65280
 
 -- the refusals of a request, in the order in which they are tested; no callback routine can be declared yet
-abbrev pub refusals : PlainNet → Ctx → NReq → List (Bool × Er)
+abbrev pub refusals : PlainNet → Ctx → Req → List (Bool × Er)
 refusals net ctx (UdpCreCep cep port cbr) =
     (is_handler ctx, E_CTX) ∷ (is_wrong_id cep.0, E_ID) ∷ (is_some (get net.udp cep.0), E_OBJ) ∷ (is_taken net.udp port, E_PAR) ∷ (not (cbr.0 == 0), E_PAR) ∷ []
 refusals net ctx (UdpSndDat cep dest load tmo) =
@@ -68,14 +67,9 @@ refusals net ctx (UdpSndDat cep dest load tmo) =
 refusals net ctx (UdpRcvDat cep len tmo) =
     (is_handler ctx && not (is_poll tmo), E_CTX) ∷ (is_wrong_id cep.0, E_ID) ∷ (is_none (get net.udp cep.0), E_NOEXS)
     ∷ (nat_lt greatest_length len, E_PAR) ∷ (is_untold (get net.udp cep.0) tmo, E_PAR) ∷ (list_any (is_receive_at cep) net.calls, E_OBJ) ∷ []
+refusals net ctx _ = (true, E_NOSPT) ∷ []  -- a call that no part carries out yet
 
 -- ---- what a call changes
-
--- how long a request may wait; one that never waits has no time-out of its own
-abbrev pub timeout_of : NReq → Tmo
-timeout_of (UdpCreCep cep port cbr) = timeouts.Pol
-timeout_of (UdpSndDat cep dest load tmo) = tmo
-timeout_of (UdpRcvDat cep len tmo) = tmo
 
 -- the call is answered at once
 abbrev pub answered : PlainNet → Er → List ℕ → NetOutcome
@@ -112,19 +106,20 @@ received net task cep len tmo number [] = accepted net task (UdpReceive cep len)
 received net task cep len tmo number (d ∷ ds) = answered (record net { udp = change net.udp cep.0 without_oldest }) (receive_code len d) (receive_bytes len d)
 
 -- what a request changes where nothing refuses it
-abbrev pub carried_out : PlainNet → Ctx → NReq → CallNo → NetOutcome
+abbrev pub carried_out : PlainNet → Ctx → Req → CallNo → NetOutcome
 carried_out net ctx (UdpCreCep cep port cbr) number = answered (record net { udp = with_point net.udp cep port cbr }) E_OK []
 carried_out net ctx (UdpSndDat cep dest load tmo) number = sent net (get net.udp cep.0) dest load
 carried_out net ctx (UdpRcvDat cep len tmo) number = received net (caller ctx) cep len tmo number (queue_of (get net.udp cep.0))
+carried_out net ctx _ number = answered net E_NOSPT []  -- a call that no part carries out yet
 
 abbrev pub unless_refused : Option Er → PlainNet → NetOutcome → NetOutcome
 unless_refused (Some code) net o = answered net code []
 unless_refused None net o = o
 
 -- the row of a request: its first refusal, which changes nothing, or what it changes
-abbrev pub row : PlainNet → Ctx → NReq → CallNo → NetOutcome
+abbrev pub row : PlainNet → Ctx → Req → CallNo → NetOutcome
 row net ctx request number = unless_refused (first_refusal (refusals net ctx request)) net (carried_out net ctx request number)
 
 -- a call of the network part: its row, and the ends of all calls that are met then
-unfoldable pub net_call : PlainNet → Ctx → NReq → CallNo → NetOutcome
+unfoldable pub net_call : PlainNet → Ctx → Req → CallNo → NetOutcome
 net_call net ctx request number = net_settled (row net ctx request number)
