@@ -3,6 +3,7 @@ pub mod Declared
 pub mod Least
 pub mod Leaving
 pub mod Readiness
+pub mod RowActs
 pub mod RowCases
 pub mod Settling
 pub mod Timing

@@ -1,28 +1,17 @@
 -- What settling does: it leaves no call ready, and changes neither the time nor the last number.
-use Rattle.std.proofs.Common.{◌≡◌, ℕ, zero, suc, ◌≤◌, List, [], ◌∷◌, ◌++◌, length, Option, Some, None, refl, ◌∙◌, inl, inr, arith}
+use Rattle.std.proofs.Common.{◌≡◌, ℕ, zero, suc, ◌≤◌, List, [], ◌∷◌, ◌++◌, length, Some, None, refl, ◌∙◌, inl, inr, arith}
 use mathlib.Core.Logic.{◌⊎◌}
 use Rattle.std.proofs.lemmas.List.{nil_from_length, append-nil}
 use Rattle.it_types.specs.declared.context.Ctx.{Ctx}
 use Rattle.it_types.specs.declared.id.CallNo.{CallNo}
-use Rattle.it_types.specs.declared.er.Er.{Er}
-use Rattle.it_types.specs.declared.id.TaskId.{TaskId}
-use Rattle.it_types.specs.declared.timeout.Tmo.{Tmo}
 use Rattle.it_types.specs.declared.kernel_request.KReq.{KReq}
-use Rattle.it_types.specs.declared.kernel_request.KReq.TheVariants.{ExtTsk, DlyTsk, SigSem, TwaiSem}
-use Rattle.it_types.specs.Callers.{caller, is_poll}
-use Rattle.spec_lists.specs.Refusal.{first_refusal}
 use Rattle.spec_lists.proofs.Firsts.{cases_of_first, take_first-shorter}
 use Rattle.spec_kernel.specs.declared.wait.Wait.{Wait}
-use Rattle.spec_kernel.specs.declared.wait.WaitFor.{WaitFor}
 use Rattle.spec_kernel.specs.declared.outcome.KAns.TheVariants.{Pends}
 use Rattle.spec_kernel.specs.PlainKernel.{PlainKernel}
 use Rattle.spec_kernel.specs.Settle.{Outcome, is_ready, first_ready, AtRest, freed, end_of, settle, settled}
-use Rattle.spec_kernel.specs.declared.wait.WaitFor.TheVariants as targets
-use Rattle.spec_kernel.specs.Semaphores.{count_of}
-use Rattle.spec_kernel.specs.Rows.{refusals, carried_out, accepted, unless_refused, row, call, quiet, tick, ticked}
-use Rattle.spec_lists.specs.Tables.{get}
-use Rattle.std.proofs.Common.{ltb}
-use Rattle.std.proofs.lemmas.Bool.{cases_Bool}
+use Rattle.spec_kernel.specs.Rows.{row, call, quiet, tick, ticked}
+use Rattle.spec_kernel.proofs.RowActs.{HoldsOfActs, row_acts}
 
 -- where no call is ready, nothing ends
 pub settle_none : (n : ℕ) (k : PlainKernel) → first_ready k ≡ None → settle n k ≡ (k, [])
@@ -107,27 +96,16 @@ settled-answer o = refl
 abbrev Stays : PlainKernel → CallNo → Outcome → Type 0
 Stays k number o = (o.kernel.now ≡ k.now) × (((o.answer ≡ Pends) × (o.kernel.last_call ≡ number.0)) ⊎ (o.kernel.last_call ≡ k.last_call))
 
-accepted_stays : (k : PlainKernel) (task : TaskId) (target : WaitFor) (tmo : Tmo) (number : CallNo) → Stays k number (accepted k task target tmo number)
-accepted_stays k task target tmo number = elim (cases_Bool (is_poll tmo)) [
-  | inl t ↦ rw t (refl, inr refl)
-  | inr t ↦ rw t (refl, inl (refl, refl))
-]
-
-carried_out_stays : (k : PlainKernel) (ctx : Ctx) (request : KReq) (number : CallNo) → Stays k number (carried_out k ctx request number)
-carried_out_stays k ctx ExtTsk number = (refl, inr refl)
-carried_out_stays k ctx (DlyTsk ticks) number = (refl, inl (refl, refl))
-carried_out_stays k ctx (SigSem s) number = (refl, inr refl)
-carried_out_stays k ctx (TwaiSem s tmo) number = elim (cases_Bool (ltb 0 (count_of (get k.semaphores s.0)))) [
-  | inl t ↦ rw t (refl, inr refl)
-  | inr t ↦ rw t (accepted_stays k (caller ctx) (targets.Semaphore s) tmo number)
-]
-
-unless_refused_stays : (k : PlainKernel) (number : CallNo) (refusal : Option Er) (o : Outcome) → Stays k number o → Stays k number (unless_refused refusal k o)
-unless_refused_stays k number None o h = h
-unless_refused_stays k number (Some code) o h = (refl, inr refl)
-
 row_stays : (k : PlainKernel) (ctx : Ctx) (request : KReq) (number : CallNo) → Stays k number (row k ctx request number)
-row_stays k ctx request number = unless_refused_stays k number (first_refusal (refusals k ctx request)) (carried_out k ctx request number) (carried_out_stays k ctx request number)
+row_stays k ctx request number = row_acts (Stays k number) acts request
+  where
+    acts : HoldsOfActs k ctx number (Stays k number)
+    acts = record {
+      answers = λ code. (refl, inr refl);
+      counts = λ semaphores. (refl, inr refl);
+      waits = λ task target tmo inside. (refl, inl (refl, refl));
+      exits = λ task. (refl, inr refl);
+    }
 
 -- no call that waits is ready after a call of the kernel
 pub call_rests : (k : PlainKernel) (ctx : Ctx) (request : KReq) (number : CallNo) → AtRest (call k ctx request number).kernel

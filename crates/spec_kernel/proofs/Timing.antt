@@ -1,30 +1,24 @@
 -- What ends by time: where no deadline is past nothing does, and after all such ends no deadline is past, no call is ready
 -- where none was, and the time, the tasks, the last number and the answer are as before.
-use Rattle.std.proofs.Common.{◌≡◌, ℕ, zero, suc, ◌+◌, ◌≤◌, false, List, [], ◌∷◌, length, Option, Some, None, refl, ap, sym, ◌∙◌, inl, inr, arith}
-use Rattle.std.proofs.lemmas.Bool.{cases_Bool, lt-leb}
+use Rattle.std.proofs.Common.{◌≡◌, ℕ, zero, suc, ◌+◌, ◌≤◌, false, List, [], ◌∷◌, length, Some, None, refl, ap, sym, ◌∙◌, inl, inr, arith}
+use Rattle.std.proofs.lemmas.Bool.{lt-leb}
 use Rattle.it_types.specs.declared.id.CallNo.{CallNo}
 use Rattle.it_types.specs.declared.id.TaskId.{TaskId}
-use Rattle.it_types.specs.declared.er.Er.{Er}
 use Rattle.it_types.specs.declared.context.Ctx.{Ctx}
 use Rattle.it_types.specs.declared.timeout.Tmo.{Tmo}
 use Rattle.it_types.specs.declared.timeout.Tmo.TheVariants as timeouts
 use Rattle.it_types.specs.declared.kernel_request.KReq.{KReq}
-use Rattle.it_types.specs.declared.kernel_request.KReq.TheVariants.{ExtTsk, DlyTsk, SigSem, TwaiSem}
-use Rattle.it_types.specs.Callers.{caller, is_poll}
-use Rattle.spec_lists.specs.Tables.{get}
-use Rattle.spec_lists.specs.Refusal.{first_refusal}
+use Rattle.it_types.specs.Callers.{caller}
 use Rattle.spec_lists.proofs.Firsts.{cases_of_first, found, none_append, none_from_parts, take_first-shorter}
 use Rattle.spec_kernel.specs.declared.wait.Wait.{Wait}
 use Rattle.spec_kernel.specs.declared.wait.WaitFor.{WaitFor}
-use Rattle.spec_kernel.specs.declared.wait.WaitFor.TheVariants as targets
 use Rattle.spec_kernel.specs.PlainKernel.{PlainKernel}
-use Rattle.spec_kernel.specs.Semaphores.{count_of}
 use Rattle.spec_kernel.specs.Settle.{Outcome, is_ready, first_ready, AtRest, freed, settle, settled, woken}
 use Rattle.spec_kernel.specs.Deadlines.{is_past, NoneIsPast, is_next_past, next_past, ended_by_time, due, by_time}
-use Rattle.spec_kernel.specs.Rows.{refusals, deadline_of, carried_out, accepted, waiting, unless_refused, row, call}
+use Rattle.spec_kernel.specs.Rows.{deadline_of, waiting, row, call}
 use Rattle.spec_kernel.proofs.Least.{none_least, none_passes}
+use Rattle.spec_kernel.proofs.RowActs.{HoldsOfActs, row_acts}
 use Rattle.spec_kernel.proofs.Settling.{settled_none, settled-last_call, settled-waits_le}
-use Rattle.std.proofs.Common.{ltb}
 
 -- ---- the next end by time
 
@@ -113,27 +107,18 @@ waiting_none_past k task target tmo number none =
     new : Wait
     new = record { call = number; task = task; target = target; deadline = deadline_of k.now tmo }
 
-accepted_none_past : (k : PlainKernel) (task : TaskId) (target : WaitFor) (tmo : Tmo) (number : CallNo) → NoneIsPast k → NoneIsPast (accepted k task target tmo number).kernel
-accepted_none_past k task target tmo number none = elim (cases_Bool (is_poll tmo)) [
-  | inl t ↦ rw t none
-  | inr t ↦ rw t (waiting_none_past k task target tmo number none)
-]
-
-carried_out_none_past : (k : PlainKernel) (ctx : Ctx) (request : KReq) (number : CallNo) → NoneIsPast k → NoneIsPast (carried_out k ctx request number).kernel
-carried_out_none_past k ctx ExtTsk number none = none
-carried_out_none_past k ctx (DlyTsk ticks) number none = waiting_none_past k (caller ctx) targets.Delay (timeouts.Ms ticks) number none
-carried_out_none_past k ctx (SigSem s) number none = none
-carried_out_none_past k ctx (TwaiSem s tmo) number none = elim (cases_Bool (ltb 0 (count_of (get k.semaphores s.0)))) [
-  | inl t ↦ rw t none
-  | inr t ↦ rw t (accepted_none_past k (caller ctx) (targets.Semaphore s) tmo number none)
-]
-
-unless_refused_none_past : (k : PlainKernel) (refusal : Option Er) (o : Outcome) → NoneIsPast k → NoneIsPast o.kernel → NoneIsPast (unless_refused refusal k o).kernel
-unless_refused_none_past k None o before after = after
-unless_refused_none_past k (Some code) o before after = before
+row_none_past : (k : PlainKernel) (ctx : Ctx) (request : KReq) (number : CallNo) → NoneIsPast k → NoneIsPast (row k ctx request number).kernel
+row_none_past k ctx request number none = row_acts (λ o. NoneIsPast o.kernel) acts request
+  where
+    acts : HoldsOfActs k ctx number (λ o. NoneIsPast o.kernel)
+    acts = record {
+      answers = λ code. none;
+      counts = λ semaphores. none;
+      waits = λ task target tmo inside. waiting_none_past k (caller ctx) target tmo number none;
+      exits = λ task. none;
+    }
 
 -- a call leaves no deadline past where none was
 pub call_none_past : (k : PlainKernel) (ctx : Ctx) (request : KReq) (number : CallNo) → NoneIsPast k → NoneIsPast (call k ctx request number).kernel
 unfolding call
-call_none_past k ctx request number none =
-    settled_none_past (row k ctx request number) (unless_refused_none_past k (first_refusal (refusals k ctx request)) (carried_out k ctx request number) none (carried_out_none_past k ctx request number none))
+call_none_past k ctx request number none = settled_none_past (row k ctx request number) (row_none_past k ctx request number none)

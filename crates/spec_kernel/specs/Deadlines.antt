@@ -42,8 +42,9 @@ code_by_time targets.Outside = E_TMOUT
 
 -- the call is one of the network part
 abbrev pub is_outside : WaitFor → Bool
+is_outside (targets.Semaphore s) = false
+is_outside targets.Delay = false
 is_outside targets.Outside = true
-is_outside _ = false
 
 abbrev pub end_by_time : Wait → KEnd
 end_by_time w = record { call = w.call; task = w.task; code = code_by_time w.target; bytes = []; outside = is_outside w.target }

@@ -1,12 +1,12 @@
 -- The kernel calls (µITRON4.0 section 4.1 for the end of a task, 4.2 for the delay, 4.4.1 for the semaphores): for each the
 -- tests that refuse it, in order, and what it changes where none holds. The order of the tests is this project's own.
-use Rattle.std.specs.Prelude.{ℕ, ◌+◌, Bool, false, not, ◌&&◌, ◌||◌, List, [], ◌∷◌, ◌++◌, Option, Some, None, is_none, nat_lt, ◌==◌, if◌then◌else◌}
+use Rattle.std.specs.Prelude.{ℕ, ◌+◌, Bool, true, false, not, ◌&&◌, ◌||◌, List, [], ◌∷◌, ◌++◌, Option, Some, None, is_none, nat_lt, ◌==◌, if◌then◌else◌}
 use Rattle.std.specs.List.{list_any}
 use Rattle.it_types.specs.declared.id.TaskId.{TaskId}
 use Rattle.it_types.specs.declared.id.ObjId.{ObjId}
 use Rattle.it_types.specs.declared.id.CallNo.{CallNo}
 use Rattle.it_types.specs.declared.er.Er.{Er}
-use Rattle.it_types.specs.declared.er.TheConstants.{E_OK, E_PAR, E_ID, E_CTX, E_NOEXS, E_QOVR, E_TMOUT}
+use Rattle.it_types.specs.declared.er.TheConstants.{E_OK, E_NOSPT, E_PAR, E_ID, E_CTX, E_NOEXS, E_QOVR, E_TMOUT}
 use Rattle.it_types.specs.declared.timeout.Tmo.{Tmo}
 use Rattle.it_types.specs.declared.timeout.Tmo.TheVariants as timeouts
 use Rattle.it_types.specs.declared.context.Ctx.{Ctx}
@@ -28,7 +28,9 @@ use Rattle.spec_kernel.specs.Settle.{Outcome, settled}
 -- time): t ticks are over at the tick after the t-th
 abbrev pub deadline_of : ℕ → Tmo → Option ℕ
 deadline_of now (timeouts.Ms ticks) = Some (now + ticks + 1)
-deadline_of now _ = None
+deadline_of now timeouts.Pol = None
+deadline_of now timeouts.Nblk = None
+deadline_of now timeouts.Fevr = None
 
 -- the id is none of its kind's
 abbrev pub is_wrong_id : ℕ → Bool
@@ -51,6 +53,7 @@ refusals k ctx (SigSem s) =
     (is_wrong_id s.0, E_ID) ∷ (is_none (get k.semaphores s.0), E_NOEXS) ∷ (not (list_any (is_on s) k.waits) && is_full (get k.semaphores s.0), E_QOVR) ∷ []
 refusals k ctx (TwaiSem s tmo) =
     (is_handler ctx, E_CTX) ∷ (is_wrong_id s.0, E_ID) ∷ (is_none (get k.semaphores s.0), E_NOEXS) ∷ (is_nblk tmo, E_PAR) ∷ []
+refusals k ctx _ = (true, E_NOSPT) ∷ []  -- a call that no part carries out yet
 
 -- the call is answered at once with this code, and no task ends or begins
 abbrev pub answered : PlainKernel → Er → Outcome
@@ -91,6 +94,7 @@ carried_out k ctx (DlyTsk ticks) number = waiting k (caller ctx) targets.Delay (
 carried_out k ctx (SigSem s) number = answered (record k { semaphores = change k.semaphores s.0 one_more }) E_OK
 carried_out k ctx (TwaiSem s tmo) number =
     if nat_lt 0 (count_of (get k.semaphores s.0)) then answered (record k { semaphores = change k.semaphores s.0 one_less }) E_OK else accepted k (caller ctx) (targets.Semaphore s) tmo number
+carried_out k ctx _ number = answered k E_NOSPT  -- a call that no part carries out yet
 
 abbrev pub unless_refused : Option Er → PlainKernel → Outcome → Outcome
 unless_refused (Some code) k o = answered k code
