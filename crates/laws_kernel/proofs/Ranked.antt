@@ -1,30 +1,23 @@
 -- The kernel with ranks does what the kernel with places does.
-use Rattle.std.proofs.Common.{◌≡◌, ◌≢◌, ℕ, zero, suc, ◌<◌, ◌≤◌, List, ◌∷◌, length, Option, Some, None, refl, ap, inl, inr, ltb}
-use Rattle.std.proofs.lemmas.Bool.{cases_Bool}
+use Rattle.std.proofs.Common.{◌≡◌, ◌≢◌, ℕ, zero, suc, ◌<◌, ◌≤◌, List, ◌∷◌, length, Option, Some, None, refl, ap, inl, inr, false}
 use Rattle.it_types.specs.declared.id.TaskId.{TaskId}
 use Rattle.it_types.specs.declared.id.CallNo.{CallNo}
-use Rattle.it_types.specs.declared.er.Er.{Er}
 use Rattle.it_types.specs.declared.context.Ctx.{Ctx}
 use Rattle.it_types.specs.declared.context.Ctx.TheVariants as contexts
 use Rattle.it_types.specs.declared.timeout.Tmo.{Tmo}
-use Rattle.it_types.specs.declared.timeout.Tmo.TheVariants as timeouts
 use Rattle.it_types.specs.declared.kernel_request.KReq.{KReq}
-use Rattle.it_types.specs.declared.kernel_request.KReq.TheVariants.{ExtTsk, DlyTsk, SigSem, TwaiSem}
-use Rattle.it_types.specs.Callers.{is_poll}
-use Rattle.spec_lists.specs.Tables.{get}
-use Rattle.spec_lists.specs.Refusal.{first_refusal}
+use Rattle.it_types.specs.Callers.{is_handler, caller}
 use Rattle.spec_lists.proofs.Firsts.{cases_of_first}
 use Rattle.spec_kernel.specs.declared.wait.Wait.{Wait}
-use Rattle.spec_kernel.specs.declared.wait.WaitFor.{WaitFor}
 use Rattle.spec_kernel.specs.declared.wait.WaitFor.TheVariants as targets
 use Rattle.spec_kernel.specs.declared.outcome.KEnd.{KEnd}
 use Rattle.spec_kernel.specs.PlainKernel.{PlainKernel}
-use Rattle.spec_kernel.specs.Semaphores.{count_of}
 use Rattle.spec_kernel.specs.Tasks.{running}
 use Rattle.spec_kernel.specs.Settle.{Outcome, is_ready, first_ready, freed, end_of, settle, settled}
 use Rattle.spec_kernel.specs.Deadlines.{is_next_past, next_past, due}
 use Rattle.spec_kernel.specs.Outside.{blocked, unblocked, is_outside_of, outside_wait_of}
-use Rattle.spec_kernel.specs.Rows.{deadline_of, refusals, accepted, carried_out, unless_refused, row, call, tick, quiet, ticked}
+use Rattle.spec_kernel.specs.Rows.{deadline_of, row, call, tick, quiet, ticked}
+use Rattle.spec_kernel.proofs.RowActs.{HoldsOfActs, row_acts}
 use Rattle.laws_kernel.specs.Runnable.{times_listed}
 use Rattle.laws_kernel.specs.Ranks.{Ranks, Ended, Ranked, task_draws, row_draws, settle_by_rank, settled_by_rank, call_by_rank, due_by_rank, tick_by_rank, RankedKernel, blocked_by_rank, unblocked_by_rank}
 use Rattle.laws_kernel.proofs.Rising.{first_is_least}
@@ -72,36 +65,22 @@ MayCall k (contexts.Task t) = (t.0 ≢ 0) × (running k.tasks k.runnable ≡ t)
 record RowStands (number : CallNo) (r : Ranks) (o : Outcome) : Type 0 where
   stands : StandsFor o.kernel (row_draws o.answer number r)
 
-unless_refused_stands : (k : PlainKernel) (r : Ranks) (number : CallNo) (refusal : Option Er) (o : Outcome)
-    → StandsFor k r
-    → (refusal ≡ None → RowStands number r o)
-    → RowStands number r (unless_refused refusal k o)
-unless_refused_stands k r number None o h carried = carried refl
-unless_refused_stands k r number (Some code) o h carried = record { stands = h }
+-- a task that calls is runnable
+caller_listed : (k : PlainKernel) (ctx : Ctx) → MayCall k ctx → is_handler ctx ≡ false → 1 ≤ times_listed (caller ctx).0 k.runnable
+caller_listed k contexts.Handler may task = cc
+caller_listed k (contexts.Task t) may task = running_listed k.tasks k.runnable t may.0 may.1
 
 module _ (k : PlainKernel) (r : Ranks) (number : CallNo) (h : StandsFor k r) (lt : k.last_call < number.0) where
-  accepted_stands : (t : TaskId) (target : WaitFor) (tmo : Tmo) → t.0 ≢ 0 → running k.tasks k.runnable ≡ t → RowStands number r (accepted k t target tmo number)
-  accepted_stands t target tmo some runs = elim (cases_Bool (is_poll tmo)) [
-    | inl poll ↦ rw poll (record { stands = h })
-    | inr waits ↦ rw waits (record { stands = waiting_stands h t number target (deadline_of k.now tmo) (running_listed k.tasks k.runnable t some runs) lt })
-  ]
-
-  carried_out_stands : (ctx : Ctx) (request : KReq) → MayCall k ctx → first_refusal (refusals k ctx request) ≡ None → RowStands number r (carried_out k ctx request number)
-  carried_out_stands ctx (SigSem s) may allowed = record { stands = h }
-  carried_out_stands contexts.Handler ExtTsk may allowed = absurd cc
-  carried_out_stands contexts.Handler (DlyTsk ticks) may allowed = absurd cc
-  carried_out_stands contexts.Handler (TwaiSem s tmo) may allowed = absurd cc
-  carried_out_stands (contexts.Task t) ExtTsk may allowed = record { stands = exited_stands h t (running_listed k.tasks k.runnable t may.0 may.1) }
-  carried_out_stands (contexts.Task t) (DlyTsk ticks) may allowed =
-      record { stands = waiting_stands h t number targets.Delay (deadline_of k.now (timeouts.Ms ticks)) (running_listed k.tasks k.runnable t may.0 may.1) lt }
-  carried_out_stands (contexts.Task t) (TwaiSem s tmo) may allowed = elim (cases_Bool (ltb 0 (count_of (get k.semaphores s.0)))) [
-    | inl met ↦ rw met (record { stands = h })
-    | inr unmet ↦ rw unmet (accepted_stands t (targets.Semaphore s) tmo may.0 may.1)
-  ]
+  acts_stand : (ctx : Ctx) → MayCall k ctx → HoldsOfActs k ctx number (RowStands number r)
+  acts_stand ctx may = record {
+    answers = λ code. record { stands = h };
+    counts = λ semaphores. record { stands = h };
+    waits = λ task target tmo inside. record { stands = waiting_stands h (caller ctx) number target (deadline_of k.now tmo) (caller_listed k ctx may task) lt };
+    exits = λ task. record { stands = exited_stands h (caller ctx) (caller_listed k ctx may task) };
+  }
 
   row_stands : (ctx : Ctx) (request : KReq) → MayCall k ctx → RowStands number r (row k ctx request number)
-  row_stands ctx request may =
-      unless_refused_stands k r number (first_refusal (refusals k ctx request)) (carried_out k ctx request number) h (carried_out_stands ctx request may)
+  row_stands ctx request may = row_acts (RowStands number r) (acts_stand ctx may) request
 
   pub call_same : (ctx : Ctx) (request : KReq) → MayCall k ctx → SameOutcome (call_by_rank k r ctx request number) (call k ctx request number)
   unfolding call_by_rank call

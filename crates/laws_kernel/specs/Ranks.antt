@@ -15,7 +15,7 @@ use Rattle.spec_lists.specs.First.{take_first}
 use Rattle.spec_kernel.specs.declared.task.Task.{Task}
 use Rattle.spec_kernel.specs.declared.wait.Wait.{Wait}
 use Rattle.spec_kernel.specs.declared.outcome.KAns.{KAns}
-use Rattle.spec_kernel.specs.declared.outcome.KAns.TheVariants.{Pends}
+use Rattle.spec_kernel.specs.declared.outcome.KAns.TheVariants.{Now, Pends, Quiet}
 use Rattle.spec_kernel.specs.declared.outcome.KEnd.{KEnd}
 use Rattle.spec_kernel.specs.PlainKernel.{PlainKernel, greatest_id}
 use Rattle.spec_kernel.specs.Tasks.{priority_of}
@@ -108,7 +108,8 @@ settled_by_rank o r = and_ended o (settle_by_rank (length o.kernel.waits) o.kern
 -- a call that waits draws a rank; no row makes a task runnable yet
 abbrev pub row_draws : KAns → CallNo → Ranks → Ranks
 row_draws Pends number r = call_draws number r
-row_draws _ number r = r
+row_draws (Now code bytes) number r = r
+row_draws Quiet number r = r
 
 -- a call of the kernel
 unfoldable pub call_by_rank : PlainKernel → Ranks → Ctx → KReq → CallNo → Ranked
