@@ -20,7 +20,7 @@ pub(crate) fn deadline_of(now: u64, tmo: Tmo) -> Option<u64>
 {
     match tmo {
         Tmo::Ms(ticks) => Some(now + ticks as u64 + 1),
-        _ => None,
+        Tmo::Pol | Tmo::Nblk | Tmo::Fevr => None,
     }
 }
 

@@ -11,7 +11,7 @@ use crate::Done;
 use crate::refusals::refusal;
 use crate::tables::{MAX_TASKS, is_active, most_urgent};
 use arrayvec::ArrayVec;
-use it_types::{CallNo, Ctx, KReq, ObjId, TaskId};
+use it_types::{CallNo, Ctx, E_NOSPT, KReq, ObjId, TaskId};
 use spec_kernel::{Semaphore, Task, Wait};
 use std::marker::Model;
 
@@ -68,7 +68,7 @@ impl Kernel {
     }
 
     /// Makes a call of the kernel under a number above that of each call that waited. A task calls only while it runs.
-    /// A refused call changes nothing.
+    /// A refused call changes nothing; one that no part carries out yet is refused with `E_NOSPT`.
     pub fn call(&mut self, ctx: Ctx, req: &KReq, no: CallNo) -> Done
         requires caller { (t : ATaskId) → ctx ≡ Ctx.Task t → (t.0 ≢ 0) × (running self.old.tasks self.old.runnable ≡ t) }
         requires number { self.old.last_call < no.0 }
@@ -92,6 +92,7 @@ impl Kernel {
             KReq::DlyTsk { ms } => self.dly_tsk(ctx, ms, no),
             KReq::SigSem { sem } => self.sig_sem(sem),
             KReq::TwaiSem { sem, tmo } => self.twai_sem(ctx, sem, tmo, no),
+            _ => Done::now(E_NOSPT),
         }
     }
 
