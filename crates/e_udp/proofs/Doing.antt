@@ -12,8 +12,8 @@ use Rattle.it_types.specs.declared.id.EndPt.{EndPt}
 use Rattle.it_types.specs.declared.id.ObjId.{ObjId}
 use Rattle.it_types.specs.declared.id.TaskId.{TaskId}
 use Rattle.it_types.specs.declared.timeout.Tmo.{Tmo}
-use Rattle.it_types.specs.declared.network_request.NReq.{NReq}
-use Rattle.it_types.specs.declared.network_request.NReq.TheVariants.{UdpCreCep, UdpRcvDat}
+use Rattle.it_types.specs.declared.request.Req.{Req}
+use Rattle.it_types.specs.declared.request.Req.TheVariants.{UdpCreCep, UdpRcvDat}
 use Rattle.it_types.specs.Callers.{caller, is_poll}
 use Rattle.spec_lists.specs.Refusal.{first_refusal}
 use Rattle.spec_lists.specs.Tables.{get, change}
@@ -35,7 +35,7 @@ use Rattle.e_udp.specs.declared.out.Out.{Out}
 use Rattle.e_udp.specs.Contexts.{context_of}
 use Rattle.e_udp.specs.Deliveries.{with_datagram}
 use Rattle.e_udp.specs.Does.{Does}
-use Rattle.e_udp.proofs.Calling.{caller_is}
+use Rattle.e_udp.proofs.Callers.{caller_is}
 use Rattle.e_udp.proofs.Keeping.{taken_nowhere}
 use Rattle.spec_lists.proofs.Outcomes.{by_outcome}
 use Rattle.spec_lists.proofs.Places.{place_found, no_place}
@@ -64,7 +64,7 @@ none_there (x ∷ xs) e = cc
 -- ---- the rows
 
 -- a refused call
-pub refused_does : {net : PlainNet} {out : Out} (ctx : Ctx) (request : NReq) (number : CallNo) (code : Er)
+pub refused_does : {net : PlainNet} {out : Out} (ctx : Ctx) (request : Req) (number : CallNo) (code : Er)
     → NetAtRest net
     → Some code ≡ first_refusal (refusals net ctx request)
     → ((n : PlainNet) → Does n out (answered n code []))
@@ -72,7 +72,7 @@ pub refused_does : {net : PlainNet} {out : Out} (ctx : Ctx) (request : NReq) (nu
 refused_does {net} ctx request number code rest is tells = does_same (net_call_refused net ctx request number code rest (sym is)) (tells net)
 
 -- a call that is carried out
-pub carried_out_does : {after : PlainNet} {out : Out} (net : PlainNet) (ctx : Ctx) (request : NReq) (number : CallNo)
+pub carried_out_does : {after : PlainNet} {out : Out} (net : PlainNet) (ctx : Ctx) (request : Req) (number : CallNo)
     → NetAtRest net
     → None ≡ first_refusal (refusals net ctx request)
     → Does after out (carried_out net ctx request number)
@@ -83,7 +83,7 @@ module _ {addr : ℕ} {udp : List (Option UdpPoint)} {calls : List NetCall} {nam
   abbrev pub before : PlainNet
   before = record { addr = addr; udp = udp; calls = calls }
 
-  row_does : {after : PlainNet} {out : Out} (ctx : Ctx) (request : NReq) (number : CallNo) (o : NetOutcome)
+  row_does : {after : PlainNet} {out : Out} (ctx : Ctx) (request : Req) (number : CallNo) (o : NetOutcome)
       → NetAtRest before
       → first_refusal (refusals named ctx request) ≡ None
       → carried_out before ctx request number ≡ o

@@ -10,8 +10,8 @@ use Rattle.it_types.specs.declared.id.CepId.{CepId}
 use Rattle.it_types.specs.declared.id.ObjId.{ObjId}
 use Rattle.it_types.specs.declared.id.TaskId.{TaskId}
 use Rattle.it_types.specs.declared.timeout.Tmo.{Tmo}
-use Rattle.it_types.specs.declared.network_request.NReq.{NReq}
-use Rattle.it_types.specs.declared.network_request.NReq.TheVariants.{UdpCreCep, UdpRcvDat}
+use Rattle.it_types.specs.declared.request.Req.{Req}
+use Rattle.it_types.specs.declared.request.Req.TheVariants.{UdpCreCep, UdpRcvDat}
 use Rattle.it_types.specs.Callers.{caller, is_poll}
 use Rattle.spec_lists.specs.Tables.{get, change}
 use Rattle.spec_lists.specs.First.{take_first}
@@ -33,12 +33,12 @@ use Rattle.e_udp.specs.Contexts.{context_of}
 use Rattle.e_udp.specs.Deliveries.{IsWithin, with_datagram}
 use Rattle.e_udp.specs.Kept.{Kept}
 use Rattle.e_udp.specs.Order.{IsAbove}
-use Rattle.e_udp.proofs.Calling.{caller_is}
+use Rattle.e_udp.proofs.Callers.{caller_is}
 use Rattle.spec_lists.proofs.Places.{none_removed}
 use Rattle.e_udp.proofs.Rising.{All-remove, rise_end, rise_without}
 
 -- what a call that nothing refuses leaves is at rest
-row_rests : (net : PlainNet) (ctx : Ctx) (request : NReq) (number : CallNo)
+row_rests : (net : PlainNet) (ctx : Ctx) (request : Req) (number : CallNo)
     → NetAtRest net
     → first_refusal (refusals net ctx request) ≡ None
     → NetAtRest (carried_out net ctx request number).net
@@ -79,7 +79,7 @@ module _ {addr : ℕ} {udp : List (Option UdpPoint)} {calls : List NetCall} {nam
   abbrev before : PlainNet
   before = record { addr = addr; udp = udp; calls = calls }
 
-  allowed_before : (ctx : Ctx) (request : NReq) → first_refusal (refusals named ctx request) ≡ None → first_refusal (refusals before ctx request) ≡ None
+  allowed_before : (ctx : Ctx) (request : Req) → first_refusal (refusals named ctx request) ≡ None → first_refusal (refusals before ctx request) ≡ None
   allowed_before ctx request allowed = ap (λ n. first_refusal (refusals n ctx request)) same ∙ allowed
 
   -- an end point is made

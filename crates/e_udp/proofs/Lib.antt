@@ -1,4 +1,4 @@
-pub mod Calling
+pub mod Callers
 pub mod Delivering
 pub mod Doing
 pub mod FreePorts

@@ -1,5 +1,5 @@
 ghost use Rattle.std.specs.Prelude.{◌≡◌, ◌≢◌, IfOk};
-ghost use Rattle.it_types.specs.declared.network_request.NReq.{NReq};
+ghost use Rattle.it_types.specs.declared.request.Req.{Req};
 ghost use Rattle.spec_net.specs.UdpRows.{net_call};
 ghost use Rattle.e_udp.specs.Contexts.{context_of};
 ghost use Rattle.e_udp.specs.Does.{Does};
@@ -24,7 +24,7 @@ impl Udps {
         cbr: ObjId,
     ) -> Result<Out, NoMemory>
         requires task { by.0 ≢ 0 }
-        ensures { IfOk result (λ o. Does self.new o (net_call self.old (context_of by) (NReq.UdpCreCep cep port cbr) no)) }
+        ensures { IfOk result (λ o. Does self.new o (net_call self.old (context_of by) (Req.UdpCreCep cep port cbr) no)) }
     {
         match self.cre_refusal(by, cep, port, cbr) {
             Some(code) => Ok(Out::code(alloc, code)),

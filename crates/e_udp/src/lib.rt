@@ -2,6 +2,7 @@
 #![tactic(auto)]
 
 mod arriving;
+mod calling;
 mod creating;
 mod ending;
 mod out;

@@ -1,6 +1,6 @@
 ghost use Rattle.std.specs.Prelude.{◌≡◌, ◌≤◌, ◌++◌, true, None, IfOk};
 ghost use Rattle.it_types.specs.declared.id.EndPt.{EndPt as AEndPt};
-ghost use Rattle.it_types.specs.declared.network_request.NReq.{NReq};
+ghost use Rattle.it_types.specs.declared.request.Req.{Req};
 ghost use Rattle.it_types.specs.Callers.{is_poll};
 ghost use Rattle.spec_lists.specs.Refusal.{first_refusal};
 ghost use Rattle.spec_wire.specs.Octets.{u16_octets, u32_octets};
@@ -70,7 +70,7 @@ impl Udps {
     ) -> Result<Out, NoMemory>
         requires handler { by.0 ≡ 0 → is_poll tmo ≡ true }
         requires number { IsAbove no self.old.calls }
-        ensures { IfOk result (λ o. Does self.new o (net_call self.old (context_of by) (NReq.UdpRcvDat cep len tmo) no)) }
+        ensures { IfOk result (λ o. Does self.new o (net_call self.old (context_of by) (Req.UdpRcvDat cep len tmo) no)) }
     {
         match self.rcv_refusal(by, cep, len, tmo) {
             Some(code) => Ok(Out::code(alloc, code)),
@@ -88,10 +88,10 @@ impl Udps {
         len: u32,
         tmo: Tmo,
     ) -> Result<Out, NoMemory>
-        requires allowed { first_refusal (refusals self.old (context_of by) (NReq.UdpRcvDat cep len tmo)) ≡ None }
+        requires allowed { first_refusal (refusals self.old (context_of by) (Req.UdpRcvDat cep len tmo)) ≡ None }
         requires within { len ≤ 65280 }
         requires number { IsAbove no self.old.calls }
-        ensures { IfOk result (λ o. Does self.new o (net_call self.old (context_of by) (NReq.UdpRcvDat cep len tmo) no)) }
+        ensures { IfOk result (λ o. Does self.new o (net_call self.old (context_of by) (Req.UdpRcvDat cep len tmo) no)) }
     {
         match take_oldest(&mut self.points, cep) {
             Some(datagram) => {

@@ -1,5 +1,5 @@
 ghost use Rattle.std.specs.Prelude.{◌≡◌, ◌≢◌, ◌≤◌, IfOk, length, option_copied};
-ghost use Rattle.it_types.specs.declared.network_request.NReq.{NReq};
+ghost use Rattle.it_types.specs.declared.request.Req.{Req};
 ghost use Rattle.spec_lists.specs.Tables.{get};
 ghost use Rattle.spec_net.specs.Packets.{sent_packet};
 ghost use Rattle.spec_net.specs.Receiving.{count_code};
@@ -74,7 +74,7 @@ impl Udps {
         tmo: Tmo,
     ) -> Result<Out, NoMemory>
         requires task { by.0 ≢ 0 }
-        ensures { IfOk result (λ o. Does self.new o (net_call self.old (context_of by) (NReq.UdpSndDat cep dest load.now tmo) no)) }
+        ensures { IfOk result (λ o. Does self.new o (net_call self.old (context_of by) (Req.UdpSndDat cep dest load.now tmo) no)) }
     {
         match self.snd_refusal(by, cep, dest, load, tmo) {
             Some(code) => Ok(Out::code(alloc, code)),

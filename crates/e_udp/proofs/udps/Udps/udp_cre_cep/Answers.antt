@@ -1,5 +1,5 @@
 use Rattle.std.proofs.Common.{refl, sym}
-use Rattle.it_types.specs.declared.network_request.NReq.TheVariants.{UdpCreCep}
+use Rattle.it_types.specs.declared.request.Req.TheVariants.{UdpCreCep}
 use Rattle.e_udp.specs.Contexts.{context_of}
 use Rattle.e_udp.proofs.Doing.{making_does, refused_does}
 use Rattle.e_udp.proofs.Keeping.{kept_making}

@@ -1,4 +1,4 @@
-use Rattle.it_types.specs.declared.network_request.NReq.TheVariants.{UdpRcvDat}
+use Rattle.it_types.specs.declared.request.Req.TheVariants.{UdpRcvDat}
 use Rattle.e_udp.specs.Contexts.{context_of}
 use Rattle.e_udp.proofs.Doing.{refused_does}
 use Rattle.e_udp.proofs.udps.Udps.udp_rcv_dat.Goals as goal

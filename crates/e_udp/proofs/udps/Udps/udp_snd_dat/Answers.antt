@@ -1,5 +1,5 @@
 use Rattle.std.proofs.lemmas.Result.{IfOk-weaker}
-use Rattle.it_types.specs.declared.network_request.NReq.TheVariants.{UdpSndDat}
+use Rattle.it_types.specs.declared.request.Req.TheVariants.{UdpSndDat}
 use Rattle.e_udp.specs.Contexts.{context_of}
 use Rattle.e_udp.proofs.Doing.{carried_out_does, refused_does}
 use Rattle.e_udp.proofs.udps.Udps.udp_snd_dat.Goals as goal
