@@ -3,6 +3,5 @@ mod Successes
 mod Moving
 mod Timing
 mod Telling
-mod Keeping
 mod Steps
 mod Networking

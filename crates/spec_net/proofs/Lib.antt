@@ -5,3 +5,4 @@ pub mod Datagrams
 pub mod RowCases
 pub mod ArrivalCases
 pub mod FreePorts
+pub mod Keeping

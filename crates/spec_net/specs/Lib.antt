@@ -6,3 +6,4 @@ pub mod NetSettle
 pub mod UdpRows
 pub mod Arrival
 pub mod NetEnds
+pub mod Kept

@@ -1,4 +1,4 @@
--- Each event keeps what a node keeps from event to event.
+-- Each event keeps what the network part keeps from event to event, and a call that waits may wait.
 use Rattle.std.proofs.Common.{◌≡◌, ℕ, zero, suc, ◌+◌, Bool, true, false, List, [], ◌∷◌, length, Option, Some, None, refl, sym, ◌∙◌, inl, inr, arith}
 use Rattle.std.specs.Prelude.{All, not, ◌&&◌, ◌==◌}
 use Rattle.std.proofs.lemmas.Bool.{cases_Bool, cases_lt}
@@ -11,9 +11,10 @@ use Rattle.it_types.specs.declared.er.Er.{Er}
 use Rattle.it_types.specs.declared.timeout.Tmo.{Tmo}
 use Rattle.it_types.specs.declared.timeout.Tmo.TheVariants as timeouts
 use Rattle.it_types.specs.declared.context.Ctx.{Ctx}
-use Rattle.it_types.specs.declared.network_request.NReq.{NReq}
-use Rattle.it_types.specs.declared.network_request.NReq.TheVariants.{UdpCreCep, UdpSndDat, UdpRcvDat}
+use Rattle.it_types.specs.declared.request.Req.{Req}
+use Rattle.it_types.specs.declared.request.Req.TheVariants.{UdpCreCep, UdpSndDat, UdpRcvDat}
 use Rattle.it_types.specs.Callers.{caller, is_nblk, is_poll}
+use Rattle.it_types.specs.Requests.{timeout_of}
 use Rattle.spec_lists.specs.Tables.{get, change}
 use Rattle.spec_lists.specs.First.{take_first}
 use Rattle.spec_lists.specs.Refusal.{first_refusal}
@@ -31,12 +32,11 @@ use Rattle.spec_net.specs.Ports.{has_port, port_for}
 use Rattle.spec_net.specs.Packets.{Arrived, arrived_in}
 use Rattle.spec_net.specs.Receiving.{queue_of, without_oldest}
 use Rattle.spec_net.specs.NetSettle.{is_ready, first_ready, NetAtRest, taken, freed, settle, net_settled}
-use Rattle.spec_net.specs.UdpRows.{has_no_routine, refusals, accepted, received, carried_out, unless_refused, row, net_call, timeout_of}
+use Rattle.spec_net.specs.UdpRows.{has_no_routine, refusals, accepted, received, carried_out, unless_refused, row, net_call}
 use Rattle.spec_net.specs.Arrival.{given, delivered, after_arrival, quiet, arrive}
 use Rattle.spec_net.specs.NetEnds.{has_number, numbered, ended_at, ended}
 use Rattle.spec_net.proofs.Settling.{net_call_rests, arrive_rests, ended_rests}
-use Rattle.k_core.specs.TimeOuts.{may_wait}
-use Rattle.n_node.specs.Kept.{IsUpTo, HasNoRoutine, NetKept}
+use Rattle.spec_net.specs.Kept.{IsUpTo, HasNoRoutine, NetKept}
 
 -- the numbers are drawn, and no end point has a callback routine
 record Held (calls : ℕ) (net : PlainNet) : Type 0 where
@@ -130,8 +130,9 @@ ended_keeps calls net number code h = at_rest calls (ended net number code).net 
 
 -- how many numbers an answer draws
 abbrev pub net_drawn : NetAnswer → ℕ
+net_drawn (answers.Now code bytes) = 0
 net_drawn answers.Pends = 1
-net_drawn _ = 0
+net_drawn answers.Quiet = 0
 
 pub more_numbers : (calls more : ℕ) (cs : List NetCall) → All (IsUpTo calls) cs → All (IsUpTo (calls + more)) cs
 more_numbers calls more cs h = All-weaker (IsUpTo calls) (IsUpTo (calls + more)) (λ c le. omega (arith, le)) cs h
@@ -159,18 +160,19 @@ is_zero n e = elim (cases_Bool (n == 0)) [
   | inr t ↦ absurd (let f : true ≡ false = rw t at e in cc)
 ]
 
-carried_out_keeps : (calls : ℕ) (net : PlainNet) (ctx : Ctx) (request : NReq) → first_refusal (refusals net ctx request) ≡ None → Held calls net → RowKeeps calls (carried_out net ctx request (record { 0 = calls + 1 }))
+carried_out_keeps : (calls : ℕ) (net : PlainNet) (ctx : Ctx) (request : Req) → first_refusal (refusals net ctx request) ≡ None → Held calls net → RowKeeps calls (carried_out net ctx request (record { 0 = calls + 1 }))
 carried_out_keeps calls net ctx (UdpCreCep cep port cbr) allowed h =
     let tests = none_holds (refusals net ctx (UdpCreCep cep port cbr)) allowed in
     record { numbers = more_numbers calls 0 net.calls h.numbers; routines = All-change net.udp cep.0 (λ o. Some (record { port = port_for net.udp port; routine = cbr; queue = [] })) (is_zero cbr.0 tests.1.1.1.1.0) h.routines }
 carried_out_keeps calls net ctx (UdpSndDat cep dest load tmo) allowed h = answered_keeps calls net h
 carried_out_keeps calls net ctx (UdpRcvDat cep len tmo) allowed h = received_keeps calls net (caller ctx) cep len tmo (queue_of (get net.udp cep.0)) h
+carried_out_keeps calls net ctx _ allowed h = answered_keeps calls net h
 
 unless_refused_keeps : (calls : ℕ) (net : PlainNet) (refusal : Option Er) (o : NetOutcome) → Held calls net → (refusal ≡ None → RowKeeps calls o) → RowKeeps calls (unless_refused refusal net o)
 unless_refused_keeps calls net None o h carried = carried refl
 unless_refused_keeps calls net (Some code) o h carried = answered_keeps calls net h
 
-after_call : (calls : ℕ) (net : PlainNet) (ctx : Ctx) (request : NReq)
+after_call : (calls : ℕ) (net : PlainNet) (ctx : Ctx) (request : Req)
     → Held calls net
     → Held (calls + net_drawn (net_call net ctx request (record { 0 = calls + 1 })).answer) (net_call net ctx request (record { 0 = calls + 1 })).net
 unfolding net_call net_settled
@@ -179,7 +181,7 @@ after_call calls net ctx request h =
     settle_keeps (calls + net_drawn o.answer) (length o.net.calls) o.net
     (unless_refused_keeps calls net (first_refusal (refusals net ctx request)) (carried_out net ctx request (record { 0 = calls + 1 })) h (λ allowed. carried_out_keeps calls net ctx request allowed h))
 
-pub net_call_keeps : (calls : ℕ) (net : PlainNet) (ctx : Ctx) (request : NReq)
+pub net_call_keeps : (calls : ℕ) (net : PlainNet) (ctx : Ctx) (request : Req)
     → NetKept calls net
     → NetKept (calls + net_drawn (net_call net ctx request (record { 0 = calls + 1 })).answer) (net_call net ctx request (record { 0 = calls + 1 })).net
 net_call_keeps calls net ctx request h =
@@ -188,16 +190,20 @@ net_call_keeps calls net ctx request h =
 
 -- ---- a call that waits may wait
 
-accepted_waits : (net : PlainNet) (task : TaskId) (request : PendingRequest) (tmo : Tmo) (number : CallNo) → is_nblk tmo ≡ false → (accepted net task request tmo number).answer ≡ answers.Pends → may_wait tmo ≡ true
+-- a time-out with which a task comes to wait: a poll is over at once, and a non-blocking call goes on without the task
+abbrev pub MayWait : Tmo → Type 0
+MayWait tmo = (is_poll tmo ≡ false) × (is_nblk tmo ≡ false)
+
+accepted_waits : (net : PlainNet) (task : TaskId) (request : PendingRequest) (tmo : Tmo) (number : CallNo) → is_nblk tmo ≡ false → (accepted net task request tmo number).answer ≡ answers.Pends → MayWait tmo
 accepted_waits net task request timeouts.Pol number told e = cc
 accepted_waits net task request timeouts.Nblk number told e = cc
-accepted_waits net task request timeouts.Fevr number told e = refl
-accepted_waits net task request (timeouts.Ms ticks) number told e = refl
+accepted_waits net task request timeouts.Fevr number told e = (refl, refl)
+accepted_waits net task request (timeouts.Ms ticks) number told e = (refl, refl)
 
 received_waits : (net : PlainNet) (task : TaskId) (cep : CepId) (len : ℕ) (tmo : Tmo) (number : CallNo) (queue : List Received)
     → is_nblk tmo ≡ false
     → (received net task cep len tmo number queue).answer ≡ answers.Pends
-    → may_wait tmo ≡ true
+    → MayWait tmo
 received_waits net task cep len tmo number [] told e = accepted_waits net task (UdpReceive cep len) tmo number told e
 received_waits net task cep len tmo number (d ∷ ds) told e = cc
 
@@ -208,28 +214,29 @@ is_told tmo routine none e = elim (cases_Bool (is_nblk tmo)) [
   | inr t ↦ t
 ]
 
-carried_out_waits : (calls : ℕ) (net : PlainNet) (ctx : Ctx) (request : NReq) (number : CallNo)
+carried_out_waits : (calls : ℕ) (net : PlainNet) (ctx : Ctx) (request : Req) (number : CallNo)
     → first_refusal (refusals net ctx request) ≡ None
     → All HasNoRoutine net.udp
     → (carried_out net ctx request number).answer ≡ answers.Pends
-    → may_wait (timeout_of request) ≡ true
+    → MayWait (timeout_of request)
 carried_out_waits calls net ctx (UdpCreCep cep port cbr) number allowed h e = cc
 carried_out_waits calls net ctx (UdpSndDat cep dest load tmo) number allowed h e = cc
 carried_out_waits calls net ctx (UdpRcvDat cep len tmo) number allowed h e =
     let tests = none_holds (refusals net ctx (UdpRcvDat cep len tmo)) allowed in
     received_waits net (caller ctx) cep len tmo number (queue_of (get net.udp cep.0)) (is_told tmo (has_no_routine (get net.udp cep.0)) (routine_at net.udp cep.0 h) tests.1.1.1.1.0) e
+carried_out_waits calls net ctx _ number allowed h e = cc
 
 unless_refused_waits : (net : PlainNet) (refusal : Option Er) (o : NetOutcome) (tmo : Tmo)
-    → (refusal ≡ None → o.answer ≡ answers.Pends → may_wait tmo ≡ true)
+    → (refusal ≡ None → o.answer ≡ answers.Pends → MayWait tmo)
     → (unless_refused refusal net o).answer ≡ answers.Pends
-    → may_wait tmo ≡ true
+    → MayWait tmo
 unless_refused_waits net None o tmo carried e = carried refl e
 unless_refused_waits net (Some code) o tmo carried e = cc
 
-pub net_call_waits : (net : PlainNet) (ctx : Ctx) (request : NReq) (number : CallNo)
+pub net_call_waits : (net : PlainNet) (ctx : Ctx) (request : Req) (number : CallNo)
     → All HasNoRoutine net.udp
     → (net_call net ctx request number).answer ≡ answers.Pends
-    → may_wait (timeout_of request) ≡ true
+    → MayWait (timeout_of request)
 unfolding net_call net_settled
 net_call_waits net ctx request number h e =
     unless_refused_waits net (first_refusal (refusals net ctx request)) (carried_out net ctx request number) (timeout_of request) (λ allowed pends. carried_out_waits 0 net ctx request number allowed h pends) e
