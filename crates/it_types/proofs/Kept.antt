@@ -1,5 +1,5 @@
 -- A change of a value keeps a table.
-use Rattle.std.proofs.Common.{◌≡◌, ◌≢◌, ℕ, List, Option, None, slice_set, refl, sym, ◌∙◌}
+use Rattle.std.proofs.Common.{◌≢◌, ℕ, List, Option, None, slice_set, sym, ◌∙◌}
 use Rattle.std.proofs.lemmas.List.{get_or-set_other, length-set}
 use Rattle.it_types.specs.Table.{IsTable}
 

@@ -1,4 +1,14 @@
 pub mod Requests
+pub mod Cursor
+pub mod Numbers
+pub mod Data
+pub mod Spelling
+pub mod Words
+pub mod Kinds
+pub mod Fields
+pub mod Calls
+pub mod Lines
+pub mod Standings
 pub mod Table
 pub mod Lends
 pub mod Address

@@ -5,22 +5,31 @@ mod answer;
 mod bytes;
 mod conf;
 mod context;
+pub mod cursor;
+pub mod data;
 mod entry;
 mod er;
 mod event;
 mod handler;
 mod id;
 mod kernel_request;
+mod kinds;
+mod line;
 mod list;
 mod mark;
 mod no_memory;
 mod node_conf;
+pub mod numbers;
+pub mod reading;
 mod refusing;
 mod request;
 mod small;
+mod spelling;
+mod stop;
 mod synced;
 mod table;
 mod timeout;
+mod word;
 pub mod words;
 
 pub use answer::Ans;
@@ -33,7 +42,7 @@ pub use er::{
     E_QOVR, E_RLWAI, E_RSATR, E_SYS, E_TMOUT, E_WBLK, Er, code_numbers,
 };
 pub use event::Event;
-pub use handler::{FnCode, Handler};
+pub use handler::{FnCode, Handler, TCP_FUNCTIONS, UDP_FUNCTIONS};
 pub use id::{
     CallNo, CepId, EndPt, GREATEST_ID, NodeId, ObjId, PackNo, RepId, TABLE_PLACES, TaskId,
 };
@@ -42,8 +51,11 @@ pub use list::List;
 pub use mark::{Dir, Mark};
 pub use no_memory::NoMemory;
 pub use node_conf::{Conf, NodeConf};
+pub use reading::read_call;
 pub use request::Req;
 pub use small::Small;
+pub use spelling::spell_into;
 pub use synced::Synced;
 pub use table::{PutErr, Table};
 pub use timeout::Tmo;
+pub use word::{ALL_WORDS, Word};

@@ -1,0 +1,192 @@
+-- The laws of a line: what is read is the text of its request, and the text of a request is read again.
+use Rattle.std.proofs.Common.{◌≡◌, ℕ, Bool, true, false, List, [], ◌++◌, Some, None, refl, sym, ap, ◌∙◌}
+use Rattle.std.specs.List.{list_all}
+use Rattle.std.proofs.lemmas.List.{append-nil}
+use Rattle.it_types.specs.declared.request.Req.{Req}
+use Rattle.it_types.specs.declared.request.Req.TheVariants as requests
+use Rattle.it_types.specs.declared.word.Word.{Word}
+use Rattle.it_types.specs.declared.word.Word.TheVariants.{ActTsk, CanAct, ExtTsk, TerTsk, ChgPri, GetPri, TslpTsk, WupTsk, CanWup, RelWai, SusTsk, RsmTsk, FrsmTsk, DlyTsk, RotRdq, GetTid, SigSem, TwaiSem, SetFlg, ClrFlg, TwaiFlg, TsndDtq, FsndDtq, TrcvDtq, SetTim, GetTim, StaCyc, StpCyc, TcpCreRep, TcpDelRep, TcpCreCep, TcpDelCep, TcpAcpCep, TcpConCep, TcpShtCep, TcpClsCep, TcpSndDat, TcpRcvDat, TcpGetBuf, TcpSndBuf, TcpRcvBuf, TcpRelBuf, TcpCanCep, UdpCreCep, UdpDelCep, UdpSndDat, UdpRcvDat, UdpCanCep}
+use Rattle.it_types.specs.declared.word.TheConstants.{ALL_WORDS}
+use Rattle.it_types.specs.Cursor.{and_then, split_while, is_no_space}
+use Rattle.it_types.specs.Words.{word_text, word_in}
+use Rattle.it_types.specs.Fields.{Fields, Standing, fields_text, fields_at}
+use Rattle.it_types.specs.Calls.{Row, RowOf, row_of, form_in, made_in, form_of, request_of, Call, Of, parts_of}
+use Rattle.it_types.specs.Lines.{call_word, call_fields_text, call_is_in_range, call_request, request_text, is_writable, by_row, call_of, if_fits, trace_limit, IsSpelled}
+use Rattle.it_types.proofs.ReadSteps.{read_step, found_is, at_end_is}
+use Rattle.it_types.proofs.Fronts.{split_joins, split_again}
+use Rattle.it_types.proofs.Finding.{found_text}
+use Rattle.it_types.proofs.KindLaws.{ends_word}
+use Rattle.it_types.proofs.FieldLaws.{fields_take, fields_end, fields_again}
+
+-- ---- one line a call
+
+-- what is known of each word
+abbrev pub IsRow : Word → Type 0
+IsRow w = (list_all is_no_space (word_text w) ≡ true) × ((word_in (word_text w) ≡ Some w) × ((f : Fields (form_of w)) → parts_of (request_of w f) ≡ Of w f))
+
+-- the parts of a request make it again
+pub again : (r : Req) → call_request (parts_of r) ≡ r
+again (requests.ActTsk task) = refl
+again (requests.CanAct task) = refl
+again requests.ExtTsk = refl
+again (requests.TerTsk task) = refl
+again (requests.ChgPri task pri) = refl
+again (requests.GetPri task) = refl
+again (requests.TslpTsk tmo) = refl
+again (requests.WupTsk task) = refl
+again (requests.CanWup task) = refl
+again (requests.RelWai task) = refl
+again (requests.SusTsk task) = refl
+again (requests.RsmTsk task) = refl
+again (requests.FrsmTsk task) = refl
+again (requests.DlyTsk ms) = refl
+again (requests.RotRdq pri) = refl
+again requests.GetTid = refl
+again (requests.SigSem sem) = refl
+again (requests.TwaiSem sem tmo) = refl
+again (requests.SetFlg flg bits) = refl
+again (requests.ClrFlg flg bits) = refl
+again (requests.TwaiFlg flg bits all tmo) = refl
+again (requests.TsndDtq dtq item tmo) = refl
+again (requests.FsndDtq dtq item) = refl
+again (requests.TrcvDtq dtq tmo) = refl
+again (requests.SetTim ms) = refl
+again requests.GetTim = refl
+again (requests.StaCyc cyc) = refl
+again (requests.StpCyc cyc) = refl
+again (requests.TcpCreRep rep port) = refl
+again (requests.TcpDelRep rep) = refl
+again (requests.TcpCreCep cep send recv cbr) = refl
+again (requests.TcpDelCep cep) = refl
+again (requests.TcpAcpCep cep rep tmo) = refl
+again (requests.TcpConCep cep port dest tmo) = refl
+again (requests.TcpShtCep cep) = refl
+again (requests.TcpClsCep cep tmo) = refl
+again (requests.TcpSndDat cep load tmo) = refl
+again (requests.TcpRcvDat cep len tmo) = refl
+again (requests.TcpGetBuf cep tmo) = refl
+again (requests.TcpSndBuf cep load) = refl
+again (requests.TcpRcvBuf cep tmo) = refl
+again (requests.TcpRelBuf cep len) = refl
+again (requests.TcpCanCep cep func) = refl
+again (requests.UdpCreCep cep port cbr) = refl
+again (requests.UdpDelCep cep) = refl
+again (requests.UdpSndDat cep dest load tmo) = refl
+again (requests.UdpRcvDat cep len tmo) = refl
+again (requests.UdpCanCep cep func) = refl
+
+-- the word of a call has no space and is found, and the parts of what is made of fields are the word and the fields
+pub row : (w : Word) → IsRow w
+unfolding word_text
+row ActTsk = (refl, (refl, λ f. refl))
+row CanAct = (refl, (refl, λ f. refl))
+row ExtTsk = (refl, (refl, λ f. refl))
+row TerTsk = (refl, (refl, λ f. refl))
+row ChgPri = (refl, (refl, λ f. refl))
+row GetPri = (refl, (refl, λ f. refl))
+row TslpTsk = (refl, (refl, λ f. refl))
+row WupTsk = (refl, (refl, λ f. refl))
+row CanWup = (refl, (refl, λ f. refl))
+row RelWai = (refl, (refl, λ f. refl))
+row SusTsk = (refl, (refl, λ f. refl))
+row RsmTsk = (refl, (refl, λ f. refl))
+row FrsmTsk = (refl, (refl, λ f. refl))
+row DlyTsk = (refl, (refl, λ f. refl))
+row RotRdq = (refl, (refl, λ f. refl))
+row GetTid = (refl, (refl, λ f. refl))
+row SigSem = (refl, (refl, λ f. refl))
+row TwaiSem = (refl, (refl, λ f. refl))
+row SetFlg = (refl, (refl, λ f. refl))
+row ClrFlg = (refl, (refl, λ f. refl))
+row TwaiFlg = (refl, (refl, λ f. refl))
+row TsndDtq = (refl, (refl, λ f. refl))
+row FsndDtq = (refl, (refl, λ f. refl))
+row TrcvDtq = (refl, (refl, λ f. refl))
+row SetTim = (refl, (refl, λ f. refl))
+row GetTim = (refl, (refl, λ f. refl))
+row StaCyc = (refl, (refl, λ f. refl))
+row StpCyc = (refl, (refl, λ f. refl))
+row TcpCreRep = (refl, (refl, λ f. refl))
+row TcpDelRep = (refl, (refl, λ f. refl))
+row TcpCreCep = (refl, (refl, λ f. refl))
+row TcpDelCep = (refl, (refl, λ f. refl))
+row TcpAcpCep = (refl, (refl, λ f. refl))
+row TcpConCep = (refl, (refl, λ f. refl))
+row TcpShtCep = (refl, (refl, λ f. refl))
+row TcpClsCep = (refl, (refl, λ f. refl))
+row TcpSndDat = (refl, (refl, λ f. refl))
+row TcpRcvDat = (refl, (refl, λ f. refl))
+row TcpGetBuf = (refl, (refl, λ f. refl))
+row TcpSndBuf = (refl, (refl, λ f. refl))
+row TcpRcvBuf = (refl, (refl, λ f. refl))
+row TcpRelBuf = (refl, (refl, λ f. refl))
+row TcpCanCep = (refl, (refl, λ f. refl))
+row UdpCreCep = (refl, (refl, λ f. refl))
+row UdpDelCep = (refl, (refl, λ f. refl))
+row UdpSndDat = (refl, (refl, λ f. refl))
+row UdpRcvDat = (refl, (refl, λ f. refl))
+row UdpCanCep = (refl, (refl, λ f. refl))
+
+-- ---- lines
+
+-- the text of a word and its fields
+abbrev call_text : Call → List ℕ
+call_text (Of w f) = word_text w ++ fields_text (form_of w) f
+
+text_is : (c : Call) → call_text c ≡ word_text (call_word c) ++ call_fields_text c
+text_is (Of w f) = refl
+
+-- a row reads by its form
+by_row_is : (r : Row) (s : Standing) → by_row r s ≡ and_then (fields_at (form_in r) s) (λ x. Some (made_in r x.0, x.1))
+by_row_is (RowOf form make) s = refl
+
+-- a line that is read with its fields in their ranges is the text of its request
+pub takes : (limit : ℕ) (line : List ℕ) (r : Req) → call_of limit line ≡ Some (r, true) → (line ≡ request_text r) × (is_writable limit r ≡ true)
+unfolding call_of
+takes limit line r e =
+    read_step e λ w p e1. read_step e1 λ x q e2.
+    let front = (split_while is_no_space line).0 in
+    let last = (split_while is_no_space line).1 in
+    let start : Standing = record { limit = limit; fits = true; rest = last } in
+    read_step (sym (by_row_is (row_of w) start) ∙ q) λ y s q1.
+    let made : (request_of w y.0, y.1) ≡ x = found_is (request_of w y.0, y.1) x q1 in
+    let ended = at_end_is x.1.rest (x.0, x.1.fits) (r, true) e2 in
+    let nil : y.1.rest ≡ [] = ap (λ (z : Req × Standing). z.1.rest) made ∙ ended.0 in
+    let fits : y.1.fits ≡ true = ap (λ (z : Req × Standing). z.1.fits) made ∙ ap (λ (z : Req × Bool). z.1) ended.1 in
+    let same : request_of w y.0 ≡ r = ap (λ (z : Req × Standing). z.0) made ∙ ap (λ (z : Req × Bool). z.0) ended.1 in
+    let parts : Of w y.0 ≡ parts_of r = sym ((row w).1.1 y.0) ∙ ap parts_of same in
+    let took = (fields_take (form_of w) start y s).fact fits in
+    let fields : last ≡ fields_text (form_of w) y.0 = took.1.0 ∙ rw nil (append-nil (fields_text (form_of w) y.0)) in
+    let text : line ≡ call_text (Of w y.0) =
+    split_joins is_no_space line ∙ ap (λ (t : List ℕ). t ++ last) (found_text word_text front ALL_WORDS w p) ∙ ap (λ (t : List ℕ). word_text w ++ t) fields in (
+      text ∙ ap call_text parts ∙ text_is (parts_of r),
+      ap (call_is_in_range limit) (sym parts) ∙ took.1.1,
+    )
+
+-- the text of a word and fields in their ranges is read again
+call_again : (limit : ℕ) (c : Call) → call_is_in_range limit c ≡ true → call_of limit (call_text c) ≡ Some (call_request c, true)
+unfolding call_of and_then
+call_again limit (Of w f) range =
+    rw (
+      split_again is_no_space (word_text w) (fields_text (form_of w) f) (row w).0 (ends_word (fields_text (form_of w) f) (fields_end (form_of w) f)),
+      (row w).1.0,
+      by_row_is (row_of w) (record { limit = limit; fits = true; rest = fields_text (form_of w) f }),
+      fields_again limit (form_of w) f range,
+    ) refl
+
+-- so is the text of a request
+pub read_again : (limit : ℕ) (r : Req) → is_writable limit r ≡ true → call_of limit (request_text r) ≡ Some (r, true)
+read_again limit r range = ap (call_of limit) (sym (text_is (parts_of r))) ∙ call_again limit (parts_of r) range ∙ ap (λ (q : Req). Some (q, true)) (again r)
+
+-- ---- traces
+
+-- what is read with its fields in their ranges is spelled; a line that is read so that one isn't is no request's text
+pub spelled : (line : List ℕ) (r : Req) (fits : Bool) → Some (r, fits) ≡ call_of trace_limit line → IsSpelled (if_fits r fits) line
+spelled line r true e = let t = takes trace_limit line r (sym e) in (t.1, t.0)
+spelled line r false e = λ q range same.
+    let both : Some (r, false) ≡ Some (q, true) = e ∙ ap (call_of trace_limit) same ∙ read_again trace_limit q range in
+    absurd (let f : false ≡ true = ap (λ (z : Req × Bool). z.1) (found_is (r, false) (q, true) both) in cc)
+
+-- where nothing is read, the line is no request's text
+pub nothing : (line : List ℕ) → None ≡ call_of trace_limit line → IsSpelled None line
+nothing line e q range same = absurd (let none : None ≡ Some (q, true) = e ∙ ap (call_of trace_limit) same ∙ read_again trace_limit q range in cc)
