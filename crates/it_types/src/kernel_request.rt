@@ -1,6 +1,6 @@
 use crate::{ObjId, TaskId, Tmo};
 
-/// A kernel call with its arguments, as those of `Req`: the requests that the kernel carries out (µITRON4.0).
+/// A kernel call with its arguments (µITRON4.0): the requests that are the kernel's, with the same fields.
 #[derive(Clone, Copy, Debug, PartialEq, Eq)]
 pub enum KReq {
     ActTsk {
