@@ -1,10 +1,13 @@
 -- The network part of a node: the calls of a task, and the bytes of a packet.
-use Rattle.std.proofs.Common.{◌≡◌, ◌≢◌, ℕ, ◌+◌, true, All, List, Some, None, refl, sym, ap, ◌∙◌}
+use Rattle.std.proofs.Common.{◌≡◌, ◌≢◌, ℕ, ◌+◌, true, false, All, List, Some, None, refl, sym, ap, ◌∙◌}
 use Rattle.std.proofs.lemmas.Bool.{ne_eqb}
 use Rattle.it_types.specs.declared.id.TaskId.{TaskId}
 use Rattle.it_types.specs.declared.id.CallNo.{CallNo}
 use Rattle.it_types.specs.declared.context.Ctx.TheVariants.{Task}
-use Rattle.it_types.specs.declared.network_request.NReq.{NReq}
+use Rattle.it_types.specs.declared.request.Req.{Req}
+use Rattle.it_types.specs.declared.timeout.Tmo.{Tmo}
+use Rattle.it_types.specs.declared.timeout.Tmo.TheVariants as timeouts
+use Rattle.it_types.specs.Requests.{timeout_of}
 use Rattle.it_types.specs.declared.entry.Out as told
 use Rattle.k_core.specs.TimeOuts.{may_wait}
 use Rattle.spec_wire.specs.Ipv4.{Ipv4, Reads, refusal, fields_of}
@@ -16,41 +19,45 @@ use Rattle.spec_net.specs.declared.outcome.NetAnswer.TheVariants as answers
 use Rattle.spec_net.specs.PlainNet.{PlainNet, NetOutcome}
 use Rattle.spec_net.specs.Packets.{if_for, arrived_in}
 use Rattle.spec_net.specs.NetSettle.{NetAtRest, net_settled}
-use Rattle.spec_net.specs.UdpRows.{net_call, timeout_of}
+use Rattle.spec_net.specs.UdpRows.{net_call}
+use Rattle.spec_net.specs.Kept.{HasNoRoutine}
 use Rattle.spec_net.specs.Arrival.{after_arrival, quiet, arrive}
 use Rattle.spec_net.proofs.ArrivalCases.{arrive_dropped}
+use Rattle.spec_net.proofs.Keeping.{MayWait, net_call_waits}
 use Rattle.e_udp.specs.Contexts.{context_of}
 use Rattle.e_udp.specs.Does.{Does}
 use Rattle.e_udp.specs.declared.out.Out.{Out}
-use Rattle.spec_node.specs.declared.event.NodeRequest.TheVariants.{Network}
-use Rattle.spec_node.specs.declared.event.NodeEvent.TheVariants.{Call}
-use Rattle.spec_node.specs.NodeStep.{blocked_where, network_called, node_step}
+use Rattle.spec_node.specs.NodeStep.{blocked_where, network_called}
 use Rattle.n_node.specs.declared.parts.Parts.{Parts}
 use Rattle.n_node.specs.Plain.{plain}
-use Rattle.n_node.specs.Kept.{HasNoRoutine}
 use Rattle.n_node.specs.Coming.{blocked_when, network_done}
-use Rattle.n_node.proofs.Keeping.{net_call_waits}
+
+may_wait_so : (tmo : Tmo) → MayWait tmo → may_wait tmo ≡ true
+may_wait_so timeouts.Pol h = absurd (let e : true ≡ false = h.0 in cc)
+may_wait_so timeouts.Nblk h = absurd (let e : true ≡ false = h.1 in cc)
+may_wait_so timeouts.Fevr h = refl
+may_wait_so (timeouts.Ms ticks) h = refl
 
 -- a call that waits may wait
-pub waits_so : (net after : PlainNet) (by : TaskId) (request : NReq) (number : CallNo) (out : Out)
+pub waits_so : (net after : PlainNet) (by : TaskId) (request : Req) (number : CallNo) (out : Out)
     → All HasNoRoutine net.udp
     → Does after out (net_call net (context_of by) request number)
     → out.ans ≡ answers.Pends
     → may_wait (timeout_of request) ≡ true
-waits_so net after by request number out h does e = net_call_waits net (context_of by) request number h (sym does.answer ∙ e)
+waits_so net after by request number out h does e = may_wait_so (timeout_of request) (net_call_waits net (context_of by) request number h (sym does.answer ∙ e))
 
-blocked_same : (answer : NetAnswer) (k : PlainKernel) (by : TaskId) (request : NReq) (number : CallNo) → blocked_where answer k (Task by) request number ≡ blocked_when answer k by (timeout_of request) number
+blocked_same : (answer : NetAnswer) (k : PlainKernel) (by : TaskId) (request : Req) (number : CallNo) → blocked_where answer k (Task by) request number ≡ blocked_when answer k by (timeout_of request) number
 blocked_same (answers.Now code bytes) k by request number = refl
 blocked_same answers.Pends k by request number = refl
 blocked_same answers.Quiet k by request number = refl
 
 -- a task's call of the network part is its step
-pub network_step : (start after : Parts) (net : PlainNet) (by : TaskId) (request : NReq) (work : Out) (out : told.Out)
+pub network_step : (start after : Parts) (net : PlainNet) (by : TaskId) (request : Req) (work : Out) (out : told.Out)
     → by.0 ≢ 0
     → Does net work (net_call start.udps (context_of by) request (record { 0 = start.calls + 1 }))
     → ((o : NetOutcome) → Does net work o → network_done (plain (record start { udps = net })) o by (timeout_of request) ≡ (plain after, out))
-    → node_step (plain start) (Call (Task by) (Network request)) ≡ (plain after, out)
-unfolding node_step network_called
+    → network_called (plain start) (Task by) request ≡ (plain after, out)
+unfolding network_called
 network_step start after net by request work out some does finished =
     let same : context_of by ≡ Task by = rw (ne_eqb by.0 0 some) refl in
     let number : CallNo = record { 0 = start.calls + 1 } in

@@ -1,11 +1,12 @@
 -- Each step of a node keeps what it keeps from event to event.
-use Rattle.std.proofs.Common.{◌≡◌, ℕ, zero, suc, ◌+◌, ◌≤◌, List, [], ◌∷◌, length, refl, subst, ◌∙◌, inl, inr, arith}
+use Rattle.std.proofs.Common.{◌≡◌, ℕ, zero, suc, ◌+◌, ◌≤◌, List, [], ◌∷◌, length, Option, Some, None, refl, subst, ◌∙◌, inl, inr, arith}
 use Rattle.spec_node.proofs.Progressing.{woken_by_keeps}
 use Rattle.std.proofs.lemmas.Bool.{cases_Bool}
 use Rattle.it_types.specs.declared.id.CallNo.{CallNo}
 use Rattle.it_types.specs.declared.context.Ctx.{Ctx}
 use Rattle.it_types.specs.declared.kernel_request.KReq.{KReq}
-use Rattle.it_types.specs.declared.network_request.NReq.{NReq}
+use Rattle.it_types.specs.declared.request.Req.{Req}
+use Rattle.it_types.specs.Requests.{kernel_of}
 use Rattle.it_types.specs.declared.entry.Out.{Out}
 use Rattle.spec_lists.proofs.Firsts.{cases_of_first}
 use Rattle.spec_kernel.specs.declared.outcome.KEnd.{KEnd}
@@ -22,14 +23,14 @@ use Rattle.spec_net.specs.PlainNet.{PlainNet}
 use Rattle.spec_net.specs.Arrival.{arrive}
 use Rattle.spec_net.specs.NetEnds.{ended}
 use Rattle.spec_net.specs.UdpRows.{net_call}
-use Rattle.spec_node.specs.declared.event.NodeRequest.TheVariants.{Kernel, Network}
+use Rattle.spec_net.specs.Kept.{NetKept}
+use Rattle.spec_net.proofs.Keeping.{net_drawn, more_numbers, arrive_keeps, ended_keeps, net_call_keeps}
 use Rattle.spec_node.specs.declared.event.NodeEvent.{NodeEvent}
 use Rattle.spec_node.specs.declared.event.NodeEvent.TheVariants.{Call, Return, Tick, Arrive}
 use Rattle.spec_node.specs.PlainNode.{PlainNode}
 use Rattle.spec_node.specs.Progress.{Progress, woken_by, after_end, after_ends, after_kernel, time_out, timed_out}
-use Rattle.spec_node.specs.NodeStep.{beginning, kernel_answer, net_answer, drawn, blocked_where, kernel_called, network_called, arrived, ticked, returned, node_step}
-use Rattle.n_node.specs.Kept.{Kept, NetKept}
-use Rattle.n_node.proofs.Keeping.{net_drawn, more_numbers, arrive_keeps, ended_keeps, net_call_keeps}
+use Rattle.spec_node.specs.NodeStep.{beginning, kernel_answer, net_answer, drawn, blocked_where, kernel_called, network_called, called_as, arrived, ticked, returned, node_step}
+use Rattle.n_node.specs.Kept.{Kept}
 
 -- ---- the last number of the kernel stays
 
@@ -89,7 +90,7 @@ net_numbers number (answers.Now code bytes) = refl
 net_numbers number answers.Pends = refl
 net_numbers number answers.Quiet = refl
 
-blocked_within : (answer : NetAnswer) (k : PlainKernel) (ctx : Ctx) (request : NReq) (calls : ℕ)
+blocked_within : (answer : NetAnswer) (k : PlainKernel) (ctx : Ctx) (request : Req) (calls : ℕ)
     → k.last_call ≤ calls
     → (blocked_where answer k ctx request (record { 0 = calls + 1 })).last_call ≤ calls + net_drawn answer
 blocked_within (answers.Now code bytes) k ctx request calls le = omega (arith, le)
@@ -104,7 +105,7 @@ kernel_kept n ctx request h =
     let along = kernel_along (n.calls + more) o.kernel.last_call (beginning n) o refl (more_kept n.calls more n.net h.net) in
     record { last_call = rw along.last_call (last_within n.kernel ctx request n.calls h.last_call); net = along.net }
 
-network_kept : (n : PlainNode) (ctx : Ctx) (request : NReq) → Kept n → Kept (network_called n ctx request).0
+network_kept : (n : PlainNode) (ctx : Ctx) (request : Req) → Kept n → Kept (network_called n ctx request).0
 unfolding network_called
 network_kept n ctx request h =
     let number : CallNo = record { 0 = n.calls + 1 } in
@@ -115,11 +116,14 @@ network_kept n ctx request h =
       net = net_call_keeps n.calls n.net ctx request h.net;
     })
 
+called_kept : (n : PlainNode) (ctx : Ctx) (request : Req) (call : Option KReq) → Kept n → Kept (called_as n ctx request call).0
+called_kept n ctx request (Some call) h = kernel_kept n ctx call h
+called_kept n ctx request None h = network_kept n ctx request h
+
 -- each event keeps it
 pub step_kept : (n : PlainNode) (event : NodeEvent) → Kept n → Kept (node_step n event).0
 unfolding node_step ticked arrived returned
-step_kept n (Call ctx (Kernel request)) h = kernel_kept n ctx request h
-step_kept n (Call ctx (Network request)) h = network_kept n ctx request h
+step_kept n (Call ctx request) h = called_kept n ctx request (kernel_of request) h
 step_kept n (Return task) h = record { last_call = h.last_call; net = h.net }
 step_kept n Tick h =
     let start = kernel_along n.calls n.kernel.last_call (beginning n) (rows.tick n.kernel) (tick-last_call n.kernel) h.net in

@@ -18,8 +18,7 @@ use Rattle.spec_net.specs.PlainNet.{PlainNet, NetOutcome}
 use Rattle.spec_net.specs.Arrival.{arrive}
 use Rattle.e_udp.specs.Does as network
 use Rattle.e_udp.specs.declared.out.Out as network_out
-use Rattle.spec_node.specs.declared.event.NodeRequest.TheVariants.{Kernel}
-use Rattle.spec_node.specs.declared.event.NodeEvent.TheVariants.{Call, Tick, Arrive}
+use Rattle.spec_node.specs.declared.event.NodeEvent.TheVariants.{Tick, Arrive}
 use Rattle.spec_node.specs.PlainNode.{PlainNode, running_in}
 use Rattle.spec_node.specs.Progress.{Progress, after_net, after_ends, after_kernel, timed_out}
 use Rattle.spec_node.specs.NodeStep.{beginning, call_end, drawn, kernel_answer, net_answer, gone_marks, begun_marks, run_marks, out_of, done, kernel_called, arrived, ticked, node_step}
@@ -72,8 +71,8 @@ pub kernel_told : (start middle after : Parts) (told told_after : Told) (by firs
     → first ≡ running_in start.kernel
     → last ≡ running_in after.kernel
     → out ≡ all_told answer told_after work.gone work.begun first last
-    → node_step (plain start) (Call (Task by) (Kernel request)) ≡ (plain after, out)
-unfolding node_step kernel_called after_kernel
+    → kernel_called (plain start) (Task by) request ≡ (plain after, out)
+unfolding kernel_called after_kernel
 kernel_told start middle after told told_after by first last request work answer out does a node move empty f l o =
     let come = move (plain start) answer told (record (beginning (plain start)) { kernel = middle.kernel }) (at_start start middle answer told middle.kernel node) in
     rw (← does.answer, ← does.gone, ← does.begun, ← does.ends, ← does.kernel, ← a)

@@ -42,8 +42,9 @@ with_net p es packets = record (with_net_ends p es) { packets = p.packets ++ pac
 
 -- a call of the network part that waits makes its task wait outside, under the call's number
 abbrev pub blocked_when : NetAnswer → PlainKernel → TaskId → Tmo → CallNo → PlainKernel
+blocked_when (net_answers.Now code bytes) k task tmo number = k
 blocked_when net_answers.Pends k task tmo number = blocked k task tmo number
-blocked_when _ k task tmo number = k
+blocked_when net_answers.Quiet k task tmo number = k
 
 -- a call of the network part with this outcome, by a task
 abbrev pub network_done : PlainNode → NetOutcome → TaskId → Tmo → PlainNode × Out

@@ -1,10 +1,8 @@
 ghost use Rattle.std.specs.Prelude.{◌≡◌, ◌≢◌, ◌<◌, ◌≤◌, ◌+◌, ◌-◌, ◌^◌, IfOk};
 ghost use Rattle.it_types.specs.declared.context.Ctx.TheVariants.{Task as InTask};
-ghost use Rattle.spec_node.specs.declared.event.NodeRequest.TheVariants.{Kernel as OfKernel};
 ghost use Rattle.spec_node.specs.declared.event.NodeEvent.TheVariants.{Call as Called};
-ghost use Rattle.spec_node.specs.Parts.{part_of};
 ghost use Rattle.spec_node.specs.PlainNode.{running_in};
-ghost use Rattle.spec_node.specs.NodeStep.{node_step, kernel_answer, drawn};
+ghost use Rattle.spec_node.specs.NodeStep.{node_step, kernel_called, kernel_answer, drawn};
 ghost use Rattle.n_node.specs.Plain.{plain};
 ghost use Rattle.n_node.specs.Kept.{Kept};
 
@@ -32,39 +30,23 @@ fn calls_after(calls: u32, answer: &Ans) -> u32
 {
     match answer {
         Ans::Pends(_) => calls + 1,
-        _ => calls,
+        Ans::Now(_, _) | Ans::Later(_) | Ans::Quiet => calls,
     }
 }
 
 impl Parts {
-    /// The running task makes a call.
+    /// The running task makes a call: one of the kernel's, or one of the network part's.
     pub(crate) fn call(&mut self, alloc: Global, by: TaskId, request: &Req) -> Result<Out, NoMemory>
         requires kept { Kept (plain self.old) }
         requires some { by.0 ≢ 0 }
         requires runs { running_in self.old.kernel ≡ by }
         requires calls { self.old.calls < 2 ^ 31 - 1 }
         requires now { self.old.kernel.now < 2 ^ 59 }
-        ensures { IfOk result (λ o. node_step (plain self.old) (Called (InTask by) (part_of request.now)) ≡ (plain self.new, o)) }
+        ensures { IfOk result (λ o. node_step (plain self.old) (Called (InTask by) request.now) ≡ (plain self.new, o)) }
     {
-        match request {
-            Req::ExtTsk => self.call_kernel(alloc, by, &KReq::ExtTsk),
-            Req::DlyTsk { ms } => self.call_kernel(alloc, by, &KReq::DlyTsk { ms: *ms }),
-            Req::SigSem { sem } => self.call_kernel(alloc, by, &KReq::SigSem { sem: *sem }),
-            Req::TwaiSem { sem, tmo } => {
-                let request = KReq::TwaiSem {
-                    sem: *sem,
-                    tmo: *tmo,
-                };
-                self.call_kernel(alloc, by, &request)
-            }
-            Req::UdpCreCep { cep, port, cbr } => self.udp_cre_cep(alloc, by, *cep, *port, *cbr),
-            Req::UdpSndDat {
-                cep,
-                dest,
-                load,
-                tmo,
-            } => self.udp_snd_dat(alloc, by, *cep, *dest, load.as_slice(), *tmo),
-            Req::UdpRcvDat { cep, len, tmo } => self.udp_rcv_dat(alloc, by, *cep, *len, *tmo),
+        match request.kernel() {
+            Some(call) => self.call_kernel(alloc, by, &call),
+            None => self.call_network(alloc, by, request),
         }
     }
 
@@ -75,7 +57,7 @@ impl Parts {
         requires runs { running_in self.old.kernel ≡ by }
         requires calls { self.old.calls < 2 ^ 31 - 1 }
         requires now { self.old.kernel.now < 2 ^ 59 }
-        ensures { IfOk result (λ o. node_step (plain self.old) (Called (InTask by) (OfKernel request.now)) ≡ (plain self.new, o)) }
+        ensures { IfOk result (λ o. kernel_called (plain self.old) (InTask by) request.now ≡ (plain self.new, o)) }
     {
         let before = self.kernel.running();
         let number = CallNo(self.calls + 1);

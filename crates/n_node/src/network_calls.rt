@@ -2,15 +2,12 @@
 
 ghost use Rattle.std.specs.Prelude.{◌≡◌, ◌≢◌, ◌<◌, ◌≤◌, ◌-◌, ◌+◌, ◌^◌, true, IfOk};
 ghost use Rattle.it_types.specs.declared.context.Ctx.TheVariants.{Task as InTask};
-ghost use Rattle.it_types.specs.declared.network_request.NReq.{NReq};
 ghost use Rattle.k_core.specs.TimeOuts.{may_wait};
 ghost use Rattle.spec_net.specs.declared.outcome.NetAnswer.TheVariants.{Pends};
 ghost use Rattle.spec_net.specs.PlainNet.{NetOutcome};
 ghost use Rattle.e_udp.specs.Does.{Does};
-ghost use Rattle.spec_node.specs.declared.event.NodeRequest.TheVariants.{Network};
-ghost use Rattle.spec_node.specs.declared.event.NodeEvent.TheVariants.{Call as Called};
 ghost use Rattle.spec_node.specs.PlainNode.{running_in};
-ghost use Rattle.spec_node.specs.NodeStep.{node_step, net_answer, drawn};
+ghost use Rattle.spec_node.specs.NodeStep.{network_called, net_answer, drawn};
 ghost use Rattle.n_node.specs.Plain.{plain};
 ghost use Rattle.n_node.specs.Kept.{Kept};
 ghost use Rattle.n_node.specs.Coming.{blocked_when, network_done};
@@ -18,81 +15,28 @@ ghost use Rattle.n_node.specs.Coming.{blocked_when, network_done};
 use crate::told::Turn;
 use crate::{Parts, Told};
 use e_udp::NetAnswer;
-use it_types::{Ans, CallNo, CepId, EndPt, NoMemory, ObjId, Out, TaskId, Tmo};
+use it_types::{Ans, CallNo, NoMemory, Out, Req, TaskId, Tmo};
 use std::alloc::Global;
 
 impl Parts {
-    /// The running task makes an end point (`udp_cre_cep`).
-    pub(crate) fn udp_cre_cep(
+    /// The running task makes a call of the network part: if it waits it gets the next number.
+    pub(crate) fn call_network(
         &mut self,
         alloc: Global,
         by: TaskId,
-        cep: CepId,
-        port: u16,
-        cbr: ObjId,
+        request: &Req,
     ) -> Result<Out, NoMemory>
         requires kept { Kept (plain self.old) }
         requires some { by.0 ≢ 0 }
         requires runs { running_in self.old.kernel ≡ by }
         requires calls { self.old.calls < 2 ^ 31 - 1 }
         requires now { self.old.kernel.now < 2 ^ 59 }
-        ensures { IfOk result (λ o. node_step (plain self.old) (Called (InTask by) (Network (NReq.UdpCreCep cep port cbr))) ≡ (plain self.new, o)) }
+        ensures { IfOk result (λ o. network_called (plain self.old) (InTask by) request.now ≡ (plain self.new, o)) }
     {
         let number = CallNo(self.calls + 1);
         let now = self.kernel.now();
-        let out = self
-            .udps
-            .udp_cre_cep(alloc, by, number, now, cep, port, cbr)?;
-        self.finish(alloc, by, Tmo::Pol, out)
-    }
-
-    /// The running task sends a datagram (`udp_snd_dat`).
-    pub(crate) fn udp_snd_dat(
-        &mut self,
-        alloc: Global,
-        by: TaskId,
-        cep: CepId,
-        dest: EndPt,
-        load: &[u8],
-        tmo: Tmo,
-    ) -> Result<Out, NoMemory>
-        requires kept { Kept (plain self.old) }
-        requires some { by.0 ≢ 0 }
-        requires runs { running_in self.old.kernel ≡ by }
-        requires calls { self.old.calls < 2 ^ 31 - 1 }
-        requires now { self.old.kernel.now < 2 ^ 59 }
-        ensures { IfOk result (λ o. node_step (plain self.old) (Called (InTask by) (Network (NReq.UdpSndDat cep dest load.now tmo))) ≡ (plain self.new, o)) }
-    {
-        let number = CallNo(self.calls + 1);
-        let now = self.kernel.now();
-        let out = self
-            .udps
-            .udp_snd_dat(alloc, by, number, now, cep, dest, load, tmo)?;
-        self.finish(alloc, by, tmo, out)
-    }
-
-    /// The running task receives a datagram (`udp_rcv_dat`).
-    pub(crate) fn udp_rcv_dat(
-        &mut self,
-        alloc: Global,
-        by: TaskId,
-        cep: CepId,
-        len: u32,
-        tmo: Tmo,
-    ) -> Result<Out, NoMemory>
-        requires kept { Kept (plain self.old) }
-        requires some { by.0 ≢ 0 }
-        requires runs { running_in self.old.kernel ≡ by }
-        requires calls { self.old.calls < 2 ^ 31 - 1 }
-        requires now { self.old.kernel.now < 2 ^ 59 }
-        ensures { IfOk result (λ o. node_step (plain self.old) (Called (InTask by) (Network (NReq.UdpRcvDat cep len tmo))) ≡ (plain self.new, o)) }
-    {
-        let number = CallNo(self.calls + 1);
-        let now = self.kernel.now();
-        let out = self
-            .udps
-            .udp_rcv_dat(alloc, by, number, now, cep, len, tmo)?;
-        self.finish(alloc, by, tmo, out)
+        let out = self.udps.call(alloc, by, number, now, request)?;
+        self.finish(alloc, by, request.timeout(), out)
     }
 
     /// The network part has answered a call of the running task: if it waits, the task waits outside under the next number.

@@ -1,11 +1,10 @@
 ghost use Rattle.std.specs.Prelude.{◌≡◌, ◌↔◌, ◌<◌, ◌-◌, ◌^◌, IsTrue, true, IfOk};
 ghost use Rattle.std.specs.List.{list_any};
 ghost use Rattle.it_types.specs.Configuration.{kernel_conf};
+ghost use Rattle.it_types.specs.declared.request.Req.{Req as ARequest};
 ghost use Rattle.spec_kernel.specs.Tasks.{is_active};
 ghost use Rattle.spec_kernel.specs.Opening.{IsDeclarable};
-ghost use Rattle.spec_node.specs.declared.event.NodeRequest.{NodeRequest};
 ghost use Rattle.spec_node.specs.declared.event.NodeEvent.TheVariants.{Call as Called, Return as Returned, Tick as Ticked, Arrive as Arrived};
-ghost use Rattle.spec_node.specs.Parts.{part_of};
 ghost use Rattle.spec_node.specs.PlainNode.{opened_node, running_task, holds_answer};
 ghost use Rattle.spec_node.specs.Admitted.{is_admitted};
 ghost use Rattle.spec_node.specs.NodeStep.{node_step};
@@ -92,7 +91,7 @@ impl Node {
 
     /// Whether a call is admitted here: by the running task, which holds no answer. No handler begins yet.
     pub fn admits_call(&self, ctx: Ctx) -> bool
-        ensures { (request : NodeRequest) → result ≡ is_admitted self.now (Called ctx request) }
+        ensures { (request : ARequest) → result ≡ is_admitted self.now (Called ctx request) }
     {
         match ctx {
             Ctx::Task(task) => self.is_running(task) && !self.holds_answer(task),
@@ -115,10 +114,10 @@ impl Node {
 
     /// The caller makes the call, which is admitted. Without memory the node is not used again.
     pub fn call(&mut self, alloc: Global, ctx: Ctx, request: &Req) -> Result<Out, NoMemory>
-        requires admitted { is_admitted self.old (Called ctx (part_of request.now)) ≡ true }
+        requires admitted { is_admitted self.old (Called ctx request.now) ≡ true }
         requires calls { self.old.calls < 2 ^ 31 - 1 }
         requires now { self.old.kernel.now < 2 ^ 59 }
-        ensures { IfOk result (λ o. node_step self.old (Called ctx (part_of request.now)) ≡ (self.new, o)) }
+        ensures { IfOk result (λ o. node_step self.old (Called ctx request.now) ≡ (self.new, o)) }
     {
         if self.failed {
             return Err(NoMemory);
