@@ -20,12 +20,12 @@ abbrev pub stop : (ℕ → Bool) → List ℕ → Option ℕ
 stop test xs = cond (ltb (prefix_len test xs) (length xs)) (Some (prefix_len test xs)) None
 
 -- where a place is found, it is this one
-stop_is : (b : Bool) (m n : ℕ) → cond b (Some m) None ≡ Some n → (b ≡ true) × (n ≡ m)
+pub stop_is : (b : Bool) (m n : ℕ) → cond b (Some m) None ≡ Some n → (b ≡ true) × (n ≡ m)
 stop_is true m n e = (refl, cc)
 stop_is false m n e = absurd cc
 
 -- where none is found, the test failed
-stop_none : (b : Bool) (m : ℕ) → cond b (Some m) None ≡ None → b ≡ false
+pub stop_none : (b : Bool) (m : ℕ) → cond b (Some m) None ≡ None → b ≡ false
 stop_none true m e = absurd cc
 stop_none false m e = refl
 

@@ -11,7 +11,7 @@ use Rattle.it_types.specs.Cursor.{and_then, split_while, is_no_space}
 use Rattle.it_types.specs.Words.{word_text, word_in}
 use Rattle.it_types.specs.Fields.{Fields, Standing, fields_text, fields_at}
 use Rattle.it_types.specs.Calls.{Row, RowOf, row_of, form_in, made_in, form_of, request_of, Call, Of, parts_of}
-use Rattle.it_types.specs.Lines.{call_word, call_fields_text, call_is_in_range, call_request, request_text, is_writable, by_row, call_of, if_fits, trace_limit, IsSpelled}
+use Rattle.it_types.specs.Lines.{call_word, call_fields_text, call_is_in_range, call_request, word_of, request_text, is_writable, by_row, call_of, if_fits, trace_limit, IsSpelled}
 use Rattle.it_types.proofs.ReadSteps.{read_step, found_is, at_end_is}
 use Rattle.it_types.proofs.Fronts.{split_joins, split_again}
 use Rattle.it_types.proofs.Finding.{found_text}
@@ -174,7 +174,14 @@ call_again limit (Of w f) range =
       fields_again limit (form_of w) f range,
     ) refl
 
--- so is the text of a request
+-- the text of a request, by its first word
+pub request_split : (r : Req) → split_while is_no_space (request_text r) ≡ (word_text (word_of r), call_fields_text (parts_of r))
+request_split r = split_call (parts_of r)
+  where
+    split_call : (c : Call) → split_while is_no_space (word_text (call_word c) ++ call_fields_text c) ≡ (word_text (call_word c), call_fields_text c)
+    split_call (Of w f) = split_again is_no_space (word_text w) (fields_text (form_of w) f) (row w).0 (ends_word (fields_text (form_of w) f) (fields_end (form_of w) f))
+
+-- the text of a request is read again
 pub read_again : (limit : ℕ) (r : Req) → is_writable limit r ≡ true → call_of limit (request_text r) ≡ Some (r, true)
 read_again limit r range = ap (call_of limit) (sym (text_is (parts_of r))) ∙ call_again limit (parts_of r) range ∙ ap (λ (q : Req). Some (q, true)) (again r)
 

@@ -1,14 +1,7 @@
-pub mod Fronts
-pub mod Words
-pub mod Numerals
-pub mod HexWords
+pub mod FirstLines
 pub mod LineTakes
-pub mod CallTakes
-pub mod UdpTakes
 pub mod EachTakes
 pub mod LineAgain
-pub mod CallAgain
-pub mod UdpAgain
 pub mod EachAgain
 pub mod ReadLoop
 pub mod Added

@@ -1,19 +1,14 @@
 -- A line in its ranges is read again from its text.
-use Rattle.std.proofs.Common.{◌≡◌, ℕ, ◌+◌, ◌*◌, ◌/◌, ◌%◌, ◌<◌, ◌≤◌, true, false, ltb, leb, List, [], ◌++◌, Option, Some, None, codes, refl, sym, ap, ◌∙◌, append_assoc, arith}
-use Rattle.std.specs.Char.{is_ascii_digit}
+use Rattle.std.proofs.Common.{◌≡◌, ℕ, ◌≤◌, true, false, leb, [], ◌++◌, Option, Some, None, codes, refl, arith}
 use Rattle.std.specs.Fmt.{decimal}
-use Rattle.std.proofs.lemmas.Bool.{and_parts, leb-true, lt-ltb}
-use Rattle.std.proofs.lemmas.List.{append-nil}
-use Rattle.it_types.specs.Address.{address_text}
+use Rattle.std.proofs.lemmas.Bool.{and_parts, leb-true}
 use Rattle.spec_script.specs.declared.script_line.ScriptLine.TheVariants.{Itron, Link, Ticks, FirstNode, SecondNode, Sem, Task, End}
 use Rattle.spec_script.specs.declared.script_line.NodeLine.{NodeLine}
 use Rattle.spec_script.specs.Lines.{line_text, node_text}
 use Rattle.spec_script.specs.Ranges.{within, is_at_most, is_node_in_range, is_in_range}
-use Rattle.s_script.specs.Cursor.{and_then, after}
-use Rattle.s_script.specs.Numbers.{number_at, address_of, address_at}
+use Rattle.it_types.specs.Cursor.{and_then, after}
 use Rattle.s_script.specs.LineKinds.{itron_line, link_line, ticks_line, node_at, first_node_line, second_node_line, either_node_line, sem_line, task_line, line_of}
-use Rattle.s_script.proofs.Fronts.{stops}
-use Rattle.s_script.proofs.Numerals.{number_again}
+use Rattle.it_types.proofs.Numerals.{number_again, number_last, address_again}
 
 -- ---- numbers in their ranges
 
@@ -26,40 +21,6 @@ in_bounds low (Some n) high e go = go n refl (leb-true n high (and_parts (leb lo
 pub at_most : {P : Type 0} (m : Option ℕ) (n : ℕ) → is_at_most m (Some n) ≡ true → ((v : ℕ) → m ≡ Some v → v ≤ n → P) → P
 at_most None n e go = absurd (let none : false ≡ true = e in cc)
 at_most (Some m) n e go = go m refl (leb-true m n e)
-
--- a number at the end is read again
-pub number_last : (n : ℕ) → n < 18446744073709551616 → number_at (decimal n) ≡ Some (Some n, [])
-number_last n fits = ap number_at (sym (append-nil (decimal n))) ∙ number_again n [] fits refl
-
--- ---- addresses
-
--- the parts of an address make it
-address_back : (addr : ℕ) → addr ≤ 4294967295 → address_of (Some (addr / 16777216)) (Some (addr / 65536 % 256)) (Some (addr / 256 % 256)) (Some (addr % 256)) ≡ Some addr
-unfolding address_of and_then
-address_back addr high =
-    let one : ltb (addr / 16777216) 256 ≡ true = lt-ltb _ 256 (omega arith) in
-    let two : ltb (addr / 65536 % 256) 256 ≡ true = lt-ltb _ 256 (omega arith) in
-    let three : ltb (addr / 256 % 256) 256 ≡ true = lt-ltb _ 256 (omega arith) in
-    let four : ltb (addr % 256) 256 ≡ true = lt-ltb _ 256 (omega arith) in
-    let whole : ((addr / 16777216 * 256 + addr / 65536 % 256) * 256 + addr / 256 % 256) * 256 + addr % 256 ≡ addr = omega arith in
-    rw (one, two, three, four, whole) refl
-
--- an address is read again
-pub address_again : (addr : ℕ) (rest : List ℕ) → addr ≤ 4294967295 → stops is_ascii_digit rest ≡ true → address_at (address_text addr ++ rest) ≡ Some (Some addr, rest)
-unfolding address_at and_then after
-address_again addr rest high stop =
-    let a = addr / 16777216 in
-    let b = addr / 65536 % 256 in
-    let c = addr / 256 % 256 in
-    let d = addr % 256 in
-    let regrouped : address_text addr ++ rest ≡ decimal a ++ (codes "." ++ (decimal b ++ (codes "." ++ (decimal c ++ (codes "." ++ (decimal d ++ rest)))))) = simp append_assoc in
-    ap address_at regrouped ∙ rw (
-      number_again a (codes "." ++ (decimal b ++ (codes "." ++ (decimal c ++ (codes "." ++ (decimal d ++ rest)))))) (omega arith) refl,
-      number_again b (codes "." ++ (decimal c ++ (codes "." ++ (decimal d ++ rest)))) (omega arith) refl,
-      number_again c (codes "." ++ (decimal d ++ rest)) (omega arith) refl,
-      number_again d rest (omega arith) stop,
-      address_back addr high,
-    ) refl
 
 -- ---- one lemma for each kind of line
 

@@ -7,10 +7,10 @@ use Rattle.spec_script.specs.declared.script_line.ScriptLine.TheVariants.{Itron,
 use Rattle.spec_script.specs.declared.script_line.NodeLine.{NodeLine}
 use Rattle.spec_script.specs.Lines.{line_text, number_text, node_text}
 use Rattle.spec_script.specs.Ranges.{within, is_at_most, is_node_in_range, is_in_range, is_written_call}
-use Rattle.s_script.specs.Cursor.{or_else, at_end}
+use Rattle.it_types.specs.Cursor.{or_else, at_end}
 use Rattle.s_script.specs.LineKinds.{itron_line, link_line, ticks_line, node_at, first_node_line, second_node_line, either_node_line, sem_line, task_line, end_line}
-use Rattle.s_script.proofs.Words.{read_step, found_is, at_end_is, after_takes}
-use Rattle.s_script.proofs.Numerals.{number_takes, address_takes}
+use Rattle.it_types.proofs.ReadSteps.{read_step, found_is, at_end_is, after_takes}
+use Rattle.it_types.proofs.Numerals.{number_takes, address_takes}
 
 -- a line whose call, if it is one, can be written
 abbrev pub is_written : ScriptLine → Bool

@@ -1,25 +1,40 @@
 -- The lines of a text, where none has an LF in it.
-use Rattle.std.proofs.Common.{◌≡◌, ℕ, ◌/◌, ◌%◌, ◌<◌, ◌≤◌, Bool, true, false, ◌&&◌, eqb, ltb, leb, List, [], ◌∷◌, ◌++◌, Option, codes, refl, ap, ◌∙◌, append_assoc, inl, inr, arith}
+use Rattle.std.proofs.Common.{◌≡◌, ℕ, ◌/◌, ◌%◌, ◌<◌, ◌≤◌, Bool, true, false, eqb, ltb, leb, List, [], ◌∷◌, ◌++◌, Option, codes, refl, ap, ◌∙◌, append_assoc, inl, inr, arith}
 use Rattle.std.specs.List.{list_all, flat_map, filter}
 use Rattle.std.specs.Char.{is_ascii_digit}
 use Rattle.std.specs.Fmt.{decimal}
 use Rattle.std.proofs.lemmas.Bool.{cases_Bool, and_parts, not-true, ne_eqb, leb-true, ltb-true}
 use Rattle.std.proofs.lemmas.List.Folds.{list_all-append}
+use Rattle.std.specs.Prelude.{nat_eq}
+use Rattle.std.specs.Cmp.Lexicographic.{pointwise}
 use Rattle.it_types.specs.declared.id.EndPt.{EndPt}
+use Rattle.it_types.specs.declared.handler.FnCode.{FnCode}
+use Rattle.it_types.specs.declared.handler.FnCode.TheVariants as functions
 use Rattle.it_types.specs.declared.request.Req.{Req}
-use Rattle.it_types.specs.declared.request.Req.TheVariants as requests
 use Rattle.it_types.specs.declared.timeout.Tmo.{Tmo}
 use Rattle.it_types.specs.declared.timeout.Tmo.TheVariants as timeouts
+use Rattle.it_types.specs.declared.word.Word.{Word}
+use Rattle.it_types.specs.declared.word.TheConstants.{ALL_WORDS}
 use Rattle.it_types.specs.Address.{address_text, end_point_text}
-use Rattle.it_types.specs.Spelling.{timeout_text, data_text, sending_text}
+use Rattle.it_types.specs.Spelling.{timeout_text, mode_text, function_text}
+use Rattle.it_types.specs.Words.{word_text}
+use Rattle.it_types.specs.Kinds.{Kind, Object, Reception, Point, Number, Port, Delay, Time, Mode, Destination, Load, Timeout, TcpFunction, UdpFunction, Value, text_of, greatest_time, is_written_timeout, is_end_point}
+use Rattle.it_types.specs.Kinds as Kinds
+use Rattle.it_types.specs.Fields.{Form, Fields, field_text, fields_text, are_in_range}
+use Rattle.it_types.specs.Calls.{Of, form_of, parts_of}
+use Rattle.it_types.specs.Calls as calls
+use Rattle.it_types.specs.Lines.{call_word, call_fields_text, call_is_in_range, is_writable}
+use Rattle.it_types.proofs.Finding.{found_passes}
+use Rattle.it_types.proofs.LineLaws.{row}
 use Rattle.spec_script.specs.declared.script_line.ScriptLine.{ScriptLine}
 use Rattle.spec_script.specs.declared.script_line.ScriptLine.TheVariants.{Itron, Link, Ticks, FirstNode, SecondNode, Sem, Task, Call, End}
 use Rattle.spec_script.specs.Lines.{line_text, node_text, ended}
-use Rattle.spec_script.specs.Ranges.{within, is_at_most, is_node_in_range, is_in_range, greatest_time, is_written_timeout, is_network_timeout, is_end_point, is_written_data, is_written_call}
+use Rattle.spec_script.specs.Ranges.{within, is_at_most, is_node_in_range, is_in_range, data_limit, is_written_call}
+use Rattle.spec_script.specs.Today.{may_write}
 use Rattle.spec_script.specs.Text.{onto_first, split_lines}
-use Rattle.s_script.proofs.Fronts.{is_no_lf}
-use Rattle.s_script.proofs.Numerals.{decimal_digits}
-use Rattle.s_script.proofs.HexWords.{hex_passes}
+use Rattle.s_script.proofs.FirstLines.{is_no_lf}
+use Rattle.it_types.proofs.Numerals.{decimal_digits}
+use Rattle.it_types.proofs.HexWords.{hex_passes}
 use Rattle.s_script.proofs.LineTakes.{is_written}
 use Rattle.s_script.proofs.LineAgain.{in_bounds, at_most}
 
@@ -143,60 +158,83 @@ task_plain id pri range =
     in_bounds 1 pri 16 bounds.1 λ p f y.
     rw (e, f) (then_plain i (codes " " ++ (decimal p ++ codes " act")) (omega arith) (then_plain p (codes " act") (omega arith) refl))
 
--- a number of ticks
-ticks_plain : (ticks : ℕ) → leb ticks greatest_time ≡ true → is_plain (decimal ticks) ≡ true
-ticks_plain ticks range = number_plain ticks (omega (arith, leb-true ticks greatest_time range))
-
--- pol, fevr or a number
-timeout_plain : (tmo : Tmo) → is_written_timeout tmo ≡ true → is_plain (timeout_text tmo) ≡ true
-timeout_plain timeouts.Pol e = refl
-timeout_plain timeouts.Nblk e = refl
-timeout_plain timeouts.Fevr e = refl
-timeout_plain (timeouts.Ms ticks) e = ticks_plain ticks (and_parts (leb 1 ticks) (leb ticks greatest_time) e).1
-
--- nblk, pol, fevr or a number
-network_timeout_plain : (tmo : Tmo) → is_network_timeout tmo ≡ true → is_plain (timeout_text tmo) ≡ true
-network_timeout_plain timeouts.Pol e = refl
-network_timeout_plain timeouts.Nblk e = refl
-network_timeout_plain timeouts.Fevr e = refl
-network_timeout_plain (timeouts.Ms ticks) e = timeout_plain (timeouts.Ms ticks) e
-
 -- plain bytes after plain ones
 both_plain : (front rest : List ℕ) → is_plain front ≡ true → is_plain rest ≡ true → is_plain (front ++ rest) ≡ true
 both_plain front rest one other = rw (list_all-append is_no_lf front rest, one, other) refl
 
--- where data is sent, the data and the time-out
-sending_plain : (dest : EndPt) (load : List ℕ) (tmo : Tmo) → is_end_point dest ≡ true → is_network_timeout tmo ≡ true → is_plain (sending_text dest load tmo) ≡ true
-sending_plain dest load tmo fits written =
-    let c = and_parts (ltb dest.addr 4294967296) (ltb dest.port 65536) fits in
-    let to : is_plain (end_point_text dest) ≡ true =
-    address_plain dest.addr (codes ":" ++ decimal dest.port) (omega (arith, ltb-true dest.addr 4294967296 c.0)) (number_plain dest.port (omega (arith, ltb-true dest.port 65536 c.1))) in
-    both_plain (end_point_text dest) (codes " " ++ (data_text load ++ (codes " " ++ timeout_text tmo))) to
-    (both_plain (data_text load) (codes " " ++ timeout_text tmo) (hex_passes is_no_lf refl refl load) (network_timeout_plain tmo written))
+-- ---- a call, by the kinds of its fields
+
+ticks_plain : (n : ℕ) → is_written_timeout (timeouts.Ms n) ≡ true → is_plain (decimal n) ≡ true
+ticks_plain n written = number_plain n (omega (arith, leb-true n greatest_time (and_parts (leb 1 n) (leb n greatest_time) written).1))
+
+timeout_plain : (tmo : Tmo) → is_written_timeout tmo ≡ true → is_plain (timeout_text tmo) ≡ true
+timeout_plain timeouts.Pol written = refl
+timeout_plain timeouts.Nblk written = refl
+timeout_plain timeouts.Fevr written = refl
+timeout_plain (timeouts.Ms n) written = ticks_plain n written
+
+mode_plain : (all : Bool) → is_plain (mode_text all) ≡ true
+mode_plain true = refl
+mode_plain false = refl
+
+function_plain : (f : FnCode) → is_plain (function_text f) ≡ true
+unfolding function_text
+function_plain functions.All = refl
+function_plain functions.AcpCep = refl
+function_plain functions.ConCep = refl
+function_plain functions.ClsCep = refl
+function_plain functions.SndDat = refl
+function_plain functions.RcvDat = refl
+function_plain functions.GetBuf = refl
+function_plain functions.RcvBuf = refl
+function_plain functions.UdpSnd = refl
+function_plain functions.UdpRcv = refl
+function_plain functions.UdpEvent = refl
+
+end_point_plain : (e : EndPt) → is_end_point e ≡ true → is_plain (end_point_text e) ≡ true
+end_point_plain e range =
+    let c = and_parts (ltb e.addr 4294967296) (ltb e.port 65536) range in
+    address_plain e.addr (codes ":" ++ decimal e.port) (omega (arith, ltb-true e.addr 4294967296 c.0)) (number_plain e.port (omega (arith, ltb-true e.port 65536 c.1)))
+
+-- a value in its range
+value_plain : (limit : ℕ) (k : Kind) (v : Value k) → Kinds.is_in_range limit k v ≡ true → is_plain (text_of k v) ≡ true
+value_plain limit Kinds.Task v range = number_plain v.0 (omega (arith, ltb-true v.0 4294967296 range))
+value_plain limit Object v range = number_plain v.0 (omega (arith, ltb-true v.0 4294967296 range))
+value_plain limit Reception v range = number_plain v.0 (omega (arith, ltb-true v.0 4294967296 range))
+value_plain limit Point v range = number_plain v.0 (omega (arith, ltb-true v.0 4294967296 range))
+value_plain limit Number v range = number_plain v (omega (arith, ltb-true v 4294967296 range))
+value_plain limit Port v range = number_plain v (omega (arith, ltb-true v 65536 range))
+value_plain limit Delay v range = number_plain v (omega (arith, leb-true v greatest_time range))
+value_plain limit Time v range = number_plain v (omega (arith, ltb-true v 9223372036854775808 range))
+value_plain limit Mode v range = mode_plain v
+value_plain limit Destination v range = end_point_plain v range
+value_plain limit Load v range = hex_passes is_no_lf refl refl v
+value_plain limit Timeout v range = timeout_plain v range
+value_plain limit TcpFunction v range = function_plain v
+value_plain limit UdpFunction v range = function_plain v
+
+-- fields in their ranges
+fields_plain : (limit : ℕ) (ks : Form) (fs : Fields ks) → are_in_range limit ks fs ≡ true → is_plain (fields_text ks fs) ≡ true
+unfolding field_text
+fields_plain limit [] fs range = refl
+fields_plain limit (k ∷ ks) fs range =
+    let parts = and_parts (Kinds.is_in_range limit k fs.0) (are_in_range limit ks fs.1) range in
+    both_plain (text_of k fs.0) (fields_text ks fs.1) (value_plain limit k fs.0 parts.0) (fields_plain limit ks fs.1 parts.1)
+
+-- words
+words_plain : list_all (λ (w : Word). is_plain (word_text w)) ALL_WORDS ≡ true
+unfolding word_text
+words_plain = refl
+
+word_plain : (w : Word) → is_plain (word_text w) ≡ true
+word_plain w = found_passes (λ v. pointwise nat_eq (word_text w) (word_text v)) (λ v. is_plain (word_text v)) ALL_WORDS w words_plain (row w).1.0
+
+parts_plain : (limit : ℕ) (c : calls.Call) → call_is_in_range limit c ≡ true → is_plain (word_text (call_word c) ++ call_fields_text c) ≡ true
+parts_plain limit (Of w f) range = both_plain (word_text w) (fields_text (form_of w) f) (word_plain w) (fields_plain limit (form_of w) f range)
 
 -- a call that can be written
 call_plain : (request : Req) → is_written_call request ≡ true → is_plain (line_text (Call request true)) ≡ true
-call_plain (requests.DlyTsk ticks) written = ticks_plain ticks written
-call_plain (requests.SigSem sem) written = number_plain sem.0 (omega (arith, ltb-true sem.0 4294967296 written))
-call_plain (requests.TwaiSem sem tmo) written =
-    let parts = and_parts (ltb sem.0 4294967296) (is_written_timeout tmo) written in
-    then_plain sem.0 (codes " " ++ timeout_text tmo) (omega (arith, ltb-true sem.0 4294967296 parts.0)) (timeout_plain tmo parts.1)
-call_plain (requests.UdpCreCep cep port cbr) written =
-    let a = and_parts (ltb cep.0 4294967296) (ltb port 65536 && ltb cbr.0 4294967296) written in
-    let b = and_parts (ltb port 65536) (ltb cbr.0 4294967296) a.1 in
-    then_plain cep.0 (codes " " ++ (decimal port ++ (codes " " ++ decimal cbr.0))) (omega (arith, ltb-true cep.0 4294967296 a.0))
-    (then_plain port (codes " " ++ decimal cbr.0) (omega (arith, ltb-true port 65536 b.0)) (number_plain cbr.0 (omega (arith, ltb-true cbr.0 4294967296 b.1))))
-call_plain (requests.UdpSndDat cep dest load tmo) written =
-    let a = and_parts (ltb cep.0 4294967296 && is_end_point dest) (is_written_data load && is_network_timeout tmo) written in
-    let b = and_parts (ltb cep.0 4294967296) (is_end_point dest) a.0 in
-    let d = and_parts (is_written_data load) (is_network_timeout tmo) a.1 in
-    then_plain cep.0 (codes " " ++ sending_text dest load tmo) (omega (arith, ltb-true cep.0 4294967296 b.0)) (sending_plain dest load tmo b.1 d.1)
-call_plain (requests.UdpRcvDat cep len tmo) written =
-    let a = and_parts (ltb cep.0 4294967296) (ltb len 4294967296 && is_network_timeout tmo) written in
-    let b = and_parts (ltb len 4294967296) (is_network_timeout tmo) a.1 in
-    then_plain cep.0 (codes " " ++ (decimal len ++ (codes " " ++ timeout_text tmo))) (omega (arith, ltb-true cep.0 4294967296 a.0))
-    (then_plain len (codes " " ++ timeout_text tmo) (omega (arith, ltb-true len 4294967296 b.0)) (network_timeout_plain tmo b.1))
-call_plain requests.ExtTsk written = refl
+call_plain request written = parts_plain data_limit (parts_of request) (and_parts (may_write request) (is_writable data_limit request) written).1
 
 -- each line in its ranges, whose call can be written, is plain
 pub line_plain : (l : ScriptLine) → is_in_range l ≡ true → is_written l ≡ true → is_plain (line_text l) ≡ true

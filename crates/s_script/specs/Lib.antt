@@ -1,6 +1,3 @@
-pub mod Cursor
-pub mod Numbers
-pub mod Data
 pub mod LineKinds
 pub mod Cutting
 pub mod Drafts

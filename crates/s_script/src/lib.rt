@@ -1,19 +1,14 @@
 //! Scripts as text: a script is read with the first wrong line and its cause, and printed in the one form that is read back.
 #![tactic(auto)]
 
-mod calls;
 mod conf;
-mod cursor;
-mod data;
 mod draft;
 mod line;
 mod lines;
-mod numbers;
 mod print;
 mod ranges;
 mod read_bad;
 mod reader;
-mod udp_calls;
 
 pub use conf::conf_of;
 pub use print::print_into;

@@ -1,16 +1,18 @@
-ghost use Rattle.std.specs.Prelude.{◌≡◌, ◌++◌, IfOk};
-ghost use Rattle.s_script.specs.Cursor.{Gives};
-ghost use Rattle.s_script.specs.LineKinds.{itron_line, link_line, ticks_line, node_at, first_node_line, second_node_line, either_node_line, sem_line, task_line, end_line, call_kinds, other_kinds, by_word, line_of};
+ghost use Rattle.std.specs.Prelude.{◌≡◌, IfOk};
+ghost use Rattle.it_types.specs.Cursor.{Gives};
+ghost use Rattle.s_script.specs.LineKinds.{itron_line, link_line, ticks_line, node_at, first_node_line, second_node_line, either_node_line, sem_line, task_line, end_line, kinds, by_word, call_line, line_of};
 
-use crate::calls::call_line;
-use crate::cursor::{after, at_end, is_word, split_word};
-use crate::numbers::{address_at, number_at};
-use crate::udp_calls::udp_snd_dat_line;
 use it_types::NoMemory;
-use spec_script::{NodeLine, ScriptLine};
+use it_types::cursor::{after, at_end, is_word, split_word};
+use it_types::numbers::{address_at, number_at};
+use it_types::reading::call_of;
+use spec_script::{NodeLine, ScriptLine, may_write};
 use std::alloc::Global;
 
-#[tactic(auto, unfolding(crate::specs::Cursor::and_then, crate::specs::LineKinds::itron_line))]
+/// The most bytes of data of a call.
+const DATA_LIMIT: usize = 1024;
+
+#[tactic(auto, unfolding(it_types::specs::Cursor::and_then, crate::specs::LineKinds::itron_line))]
 fn itron_line(bytes: &[u8]) -> Option<ScriptLine>
     ensures { result ≡ itron_line bytes.now }
 {
@@ -18,7 +20,7 @@ fn itron_line(bytes: &[u8]) -> Option<ScriptLine>
     at_end(rest, ScriptLine::Itron)
 }
 
-#[tactic(auto, unfolding(crate::specs::Cursor::and_then, crate::specs::LineKinds::link_line))]
+#[tactic(auto, unfolding(it_types::specs::Cursor::and_then, crate::specs::LineKinds::link_line))]
 fn link_line(bytes: &[u8]) -> Option<ScriptLine>
     ensures { result ≡ link_line bytes.now }
 {
@@ -28,7 +30,7 @@ fn link_line(bytes: &[u8]) -> Option<ScriptLine>
     at_end(rest, ScriptLine::Link { key })
 }
 
-#[tactic(auto, unfolding(crate::specs::Cursor::and_then, crate::specs::LineKinds::ticks_line))]
+#[tactic(auto, unfolding(it_types::specs::Cursor::and_then, crate::specs::LineKinds::ticks_line))]
 fn ticks_line(bytes: &[u8]) -> Option<ScriptLine>
     ensures { result ≡ ticks_line bytes.now }
 {
@@ -37,7 +39,7 @@ fn ticks_line(bytes: &[u8]) -> Option<ScriptLine>
     at_end(rest, ScriptLine::Ticks { ticks })
 }
 
-#[tactic(auto, unfolding(crate::specs::Cursor::and_then, crate::specs::LineKinds::node_at))]
+#[tactic(auto, unfolding(it_types::specs::Cursor::and_then, crate::specs::LineKinds::node_at))]
 fn node_at(bytes: &[u8]) -> Option<(NodeLine, &[u8])>
     ensures { Gives (λ x. (x.0, x.1.now)) result (node_at bytes.now) }
 {
@@ -49,7 +51,7 @@ fn node_at(bytes: &[u8]) -> Option<(NodeLine, &[u8])>
     Some((NodeLine { addr, isn0, top0 }, rest))
 }
 
-#[tactic(auto, unfolding(crate::specs::Cursor::and_then, crate::specs::LineKinds::first_node_line))]
+#[tactic(auto, unfolding(it_types::specs::Cursor::and_then, crate::specs::LineKinds::first_node_line))]
 fn first_node_line(bytes: &[u8]) -> Option<ScriptLine>
     ensures { result ≡ first_node_line bytes.now }
 {
@@ -58,7 +60,7 @@ fn first_node_line(bytes: &[u8]) -> Option<ScriptLine>
     at_end(rest, ScriptLine::FirstNode(node))
 }
 
-#[tactic(auto, unfolding(crate::specs::Cursor::and_then, crate::specs::LineKinds::second_node_line))]
+#[tactic(auto, unfolding(it_types::specs::Cursor::and_then, crate::specs::LineKinds::second_node_line))]
 fn second_node_line(bytes: &[u8]) -> Option<ScriptLine>
     ensures { result ≡ second_node_line bytes.now }
 {
@@ -77,7 +79,7 @@ fn either_node_line(bytes: &[u8]) -> Option<ScriptLine>
     }
 }
 
-#[tactic(auto, unfolding(crate::specs::Cursor::and_then, crate::specs::LineKinds::sem_line))]
+#[tactic(auto, unfolding(it_types::specs::Cursor::and_then, crate::specs::LineKinds::sem_line))]
 fn sem_line(bytes: &[u8]) -> Option<ScriptLine>
     ensures { result ≡ sem_line bytes.now }
 {
@@ -90,7 +92,7 @@ fn sem_line(bytes: &[u8]) -> Option<ScriptLine>
     at_end(rest, ScriptLine::Sem { id, init, max })
 }
 
-#[tactic(auto, unfolding(crate::specs::Cursor::and_then, crate::specs::LineKinds::task_line))]
+#[tactic(auto, unfolding(it_types::specs::Cursor::and_then, crate::specs::LineKinds::task_line))]
 fn task_line(bytes: &[u8]) -> Option<ScriptLine>
     ensures { result ≡ task_line bytes.now }
 {
@@ -102,9 +104,9 @@ fn task_line(bytes: &[u8]) -> Option<ScriptLine>
     at_end(rest, ScriptLine::Task { id, pri })
 }
 
-/// The line that begins with the word and goes on with the bytes, where it has no data.
-fn plain_line(word: &[u8], bytes: &[u8]) -> Option<ScriptLine>
-    ensures { result ≡ by_word (other_kinds ++ call_kinds) word.now bytes.now }
+/// The line that begins with the word and goes on with the bytes, where it is no call.
+fn other_line(word: &[u8], bytes: &[u8]) -> Option<ScriptLine>
+    ensures { result ≡ by_word kinds word.now bytes.now }
 {
     if is_word(word, b"itron") {
         itron_line(bytes)
@@ -121,7 +123,21 @@ fn plain_line(word: &[u8], bytes: &[u8]) -> Option<ScriptLine>
     } else if is_word(word, b"end") {
         at_end(bytes, ScriptLine::End)
     } else {
-        call_line(word, bytes)
+        None
+    }
+}
+
+/// The call that the bytes are read as, where a script may write it.
+fn call_line(alloc: Global, bytes: &[u8]) -> Result<Option<ScriptLine>, NoMemory>
+    ensures { IfOk result (λ line. line ≡ call_line bytes.now) }
+{
+    match call_of(alloc, DATA_LIMIT, bytes)? {
+        Some((req, fits)) => Ok(if may_write(&req) {
+            Some(ScriptLine::Call { req, fits })
+        } else {
+            None
+        }),
+        None => Ok(None),
     }
 }
 
@@ -131,9 +147,8 @@ pub fn line_of(alloc: Global, bytes: &[u8]) -> Result<Option<ScriptLine>, NoMemo
     ensures { IfOk result (λ line. line ≡ line_of bytes.now) }
 {
     let (word, rest) = split_word(bytes);
-    if is_word(word, b"udp_snd_dat") {
-        udp_snd_dat_line(alloc, rest)
-    } else {
-        Ok(plain_line(word, rest))
+    match other_line(word, rest) {
+        Some(line) => Ok(Some(line)),
+        None => call_line(alloc, bytes),
     }
 }

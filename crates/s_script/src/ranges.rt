@@ -1,7 +1,6 @@
 ghost use Rattle.std.specs.Prelude.{◌≡◌};
-ghost use Rattle.spec_script.specs.Ranges.{within, is_at_most, is_node_in_range, is_in_range, is_written_timeout, is_network_timeout};
+ghost use Rattle.spec_script.specs.Ranges.{within, is_at_most, is_node_in_range, is_in_range};
 
-use it_types::Tmo;
 use spec_script::{NodeLine, ScriptLine};
 
 /// The greatest id of a task or a semaphore, and the least urgent priority of a task.
@@ -17,9 +16,6 @@ const MAX_TICKS: u64 = 400000;
 
 /// The greatest position at which a line of sequence positions begins.
 const MAX_TOP: u64 = 2000000000;
-
-/// The greatest number of ticks of a time-out or a delay.
-pub const MAX_TIME: u64 = 1000000;
 
 /// The greatest number of 32 bits.
 const MAX_U32: u64 = 4294967295;
@@ -39,7 +35,7 @@ fn is_at_most(number: Option<u64>, other: Option<u64>) -> bool
 {
     match (number, other) {
         (Some(number), Some(other)) => number <= other,
-        _ => false,
+        (None, _) | (_, None) => false,
     }
 }
 
@@ -50,27 +46,6 @@ fn is_node_in_range(node: NodeLine) -> bool
     is_within(1, addr, MAX_U32)
         && is_within(0, node.isn0, MAX_U32)
         && is_within(0, node.top0, MAX_TOP)
-}
-
-/// Whether a script can write the time-out: not `nblk`, and no number of ticks that is out of its range.
-pub fn is_written_timeout(timeout: Tmo) -> bool
-    ensures { result ≡ is_written_timeout timeout }
-{
-    match timeout {
-        Tmo::Pol | Tmo::Fevr => true,
-        Tmo::Nblk => false,
-        Tmo::Ms(ticks) => is_within(1, Some(u64::from(ticks)), MAX_TIME),
-    }
-}
-
-/// Whether a script can write the time-out of a call of the network part.
-pub fn is_network_timeout(timeout: Tmo) -> bool
-    ensures { result ≡ is_network_timeout timeout }
-{
-    match timeout {
-        Tmo::Nblk => true,
-        _ => is_written_timeout(timeout),
-    }
 }
 
 /// Whether each number of the line is in its range.

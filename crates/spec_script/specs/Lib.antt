@@ -1,3 +1,4 @@
+pub mod Today
 pub mod Lines
 pub mod Ranges
 pub mod Text

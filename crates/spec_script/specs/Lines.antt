@@ -2,7 +2,7 @@
 use Rattle.std.specs.Prelude.{ℕ, true, List, [], ◌∷◌, ◌++◌, Option, Some, unwrap_or, slice_index, slice_index_or, codes, decimal, map}
 use Rattle.std.specs.List.{flat_map}
 use Rattle.it_types.specs.Address.{address_text}
-use Rattle.it_types.specs.Spelling.{request_text}
+use Rattle.it_types.specs.Lines.{request_text}
 use Rattle.spec_script.specs.declared.script.Script.{Script}
 use Rattle.spec_script.specs.declared.script.NodeDecl.{NodeDecl}
 use Rattle.spec_script.specs.declared.decl.Decl.{Decl}

@@ -1,12 +1,9 @@
--- What a script keeps: its ranges, one declaration for each id of a kind, and the lines that can be written today. It is this
+-- What a script keeps: its ranges, one declaration for each id of a kind, and the lines that can be written. It is this
 -- project's own.
-use Rattle.std.specs.Prelude.{◌≡◌, ◌≢◌, ℕ, Bool, true, false, not, ◌&&◌, List, [], ◌∷◌, ◌++◌, length, Option, Some, None, nat_le, nat_lt, ◌==◌}
+use Rattle.std.specs.Prelude.{◌≡◌, ◌≢◌, ℕ, Bool, true, false, not, ◌&&◌, List, [], ◌∷◌, ◌++◌, length, Option, Some, None, nat_le, ◌==◌}
 use Rattle.std.specs.List.{list_all, list_any}
-use Rattle.it_types.specs.declared.id.EndPt.{EndPt}
 use Rattle.it_types.specs.declared.request.Req.{Req}
-use Rattle.it_types.specs.declared.request.Req.TheVariants as requests
-use Rattle.it_types.specs.declared.timeout.Tmo.{Tmo}
-use Rattle.it_types.specs.declared.timeout.Tmo.TheVariants as timeouts
+use Rattle.it_types.specs.Lines.{is_writable}
 use Rattle.spec_script.specs.declared.script.Script.{Script}
 use Rattle.spec_script.specs.declared.decl.Decl.{Decl}
 use Rattle.spec_script.specs.declared.decl.Decl.TheVariants as declarations
@@ -15,6 +12,7 @@ use Rattle.spec_script.specs.declared.decl.Line.TheVariants as body_lines
 use Rattle.spec_script.specs.declared.script_line.ScriptLine.{ScriptLine}
 use Rattle.spec_script.specs.declared.script_line.ScriptLine.TheVariants.{Link, Ticks, FirstNode, SecondNode, Sem, Task, Call}
 use Rattle.spec_script.specs.declared.script_line.NodeLine.{NodeLine}
+use Rattle.spec_script.specs.Today.{may_write}
 use Rattle.spec_script.specs.Lines.{first_node, second_node, key_of, lines_of}
 
 -- a number from low to high
@@ -58,46 +56,13 @@ abbrev pub is_repeated : List Decl → Decl → Bool
 is_repeated before (declarations.Task task body) = list_any (is_task task.id) before
 is_repeated before (declarations.Sem sem) = list_any (is_semaphore sem.id) before
 
--- the greatest number of ticks of a time-out or a delay
-abbrev pub greatest_time : ℕ
-greatest_time = 1000000
-
--- a time-out that can be written: pol, fevr, or a number of ticks from 1 on
-abbrev pub is_written_timeout : Tmo → Bool
-is_written_timeout timeouts.Pol = true
-is_written_timeout timeouts.Fevr = true
-is_written_timeout (timeouts.Ms ticks) = nat_le 1 ticks && nat_le ticks greatest_time
-is_written_timeout _ = false
-
--- a time-out of a call of the network part, which can also be nblk
-abbrev pub is_network_timeout : Tmo → Bool
-is_network_timeout timeouts.Nblk = true
-is_network_timeout tmo = is_written_timeout tmo
-
--- the parts of an address with its port are below 2^32 and 2^16
-abbrev pub is_end_point : EndPt → Bool
-is_end_point e = nat_lt e.addr 4294967296 && nat_lt e.port 65536
-
--- the greatest number of bytes of data that a call sends
+-- the most bytes of data of a call
 abbrev pub data_limit : ℕ
 data_limit = 1024
 
-abbrev pub is_byte : ℕ → Bool
-is_byte byte = nat_lt byte 256
-
--- data that isn't too long
-abbrev pub is_written_data : List ℕ → Bool
-is_written_data load = nat_le (length load) data_limit && list_all is_byte load
-
--- a call that can be written, whose ids and lengths are below 2^32 and whose ports, times and data are in their ranges
+-- a call that a script may write, whose numbers and data are in their ranges
 abbrev pub is_written_call : Req → Bool
-is_written_call (requests.SigSem sem) = nat_lt sem.0 4294967296
-is_written_call (requests.TwaiSem sem tmo) = nat_lt sem.0 4294967296 && is_written_timeout tmo
-is_written_call (requests.DlyTsk ticks) = nat_le ticks greatest_time
-is_written_call (requests.UdpCreCep cep port cbr) = nat_lt cep.0 4294967296 && (nat_lt port 65536 && nat_lt cbr.0 4294967296)
-is_written_call (requests.UdpSndDat cep dest load tmo) = (nat_lt cep.0 4294967296 && is_end_point dest) && (is_written_data load && is_network_timeout tmo)
-is_written_call (requests.UdpRcvDat cep len tmo) = nat_lt cep.0 4294967296 && (nat_lt len 4294967296 && is_network_timeout tmo)
-is_written_call requests.ExtTsk = false
+is_written_call request = may_write request && is_writable data_limit request
 
 abbrev pub is_written_line : Line → Bool
 is_written_line (body_lines.Call request) = is_written_call request

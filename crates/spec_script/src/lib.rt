@@ -4,7 +4,9 @@
 mod decl;
 mod script;
 mod script_line;
+mod today;
 
 pub use decl::{Body, Decl, Line};
 pub use script::{NodeDecl, Script};
 pub use script_line::{NodeLine, ScriptLine};
+pub use today::may_write;

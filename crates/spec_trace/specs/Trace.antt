@@ -14,7 +14,6 @@ use Rattle.it_types.specs.declared.event.Event.TheVariants as events
 use Rattle.it_types.specs.declared.answer.Ans.{Ans}
 use Rattle.it_types.specs.declared.answer.Ans.TheVariants as answers
 use Rattle.it_types.specs.declared.handler.FnCode.{FnCode}
-use Rattle.it_types.specs.declared.handler.FnCode.TheVariants as functions
 use Rattle.it_types.specs.declared.handler.Handler.{Handler}
 use Rattle.it_types.specs.declared.handler.Handler.TheVariants as handlers
 use Rattle.it_types.specs.declared.mark.Dir.{Dir}
@@ -23,7 +22,8 @@ use Rattle.it_types.specs.declared.mark.Mark.{Mark}
 use Rattle.it_types.specs.declared.mark.Mark.TheVariants as marks
 use Rattle.it_types.specs.declared.entry.CallEnd.{CallEnd}
 use Rattle.it_types.specs.declared.entry.Entry.{Entry}
-use Rattle.it_types.specs.Spelling.{request_text}
+use Rattle.it_types.specs.Spelling.{function_text}
+use Rattle.it_types.specs.Lines.{request_text}
 use Rattle.it_types.specs.Address.{end_point_text}
 
 -- ---- words of several lines
@@ -40,19 +40,6 @@ direction_text directions.Recv = codes "rcv"
 abbrev pub protocol_text : Bool → List ℕ
 protocol_text true = codes "udp"
 protocol_text false = codes "tcp"
-
-abbrev pub function_text : FnCode → List ℕ
-function_text functions.All = codes "all"
-function_text functions.AcpCep = codes "acp_cep"
-function_text functions.ConCep = codes "con_cep"
-function_text functions.ClsCep = codes "cls_cep"
-function_text functions.SndDat = codes "snd_dat"
-function_text functions.RcvDat = codes "rcv_dat"
-function_text functions.GetBuf = codes "get_buf"
-function_text functions.RcvBuf = codes "rcv_buf"
-function_text functions.UdpSnd = codes "snd_dat"
-function_text functions.UdpRcv = codes "rcv_dat"
-function_text functions.UdpEvent = codes "event"
 
 -- ---- the line of the event
 

@@ -1,5 +1,5 @@
 ghost use Rattle.std.specs.Prelude.{◌≡◌, ◌++◌, OnOk, codes, decimal};
-ghost use Rattle.it_types.specs.Spelling.{request_text};
+ghost use Rattle.it_types.specs.Lines.{request_text};
 ghost use Rattle.spec_trace.specs.Trace.{answer_text, caller_text, event_text};
 
 use crate::words::put_result;

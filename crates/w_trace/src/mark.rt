@@ -1,9 +1,10 @@
 ghost use Rattle.std.specs.Prelude.{◌≡◌, ◌++◌, OnOk, codes, decimal};
 ghost use Rattle.std.specs.Fmt.{signed_decimal};
 ghost use Rattle.it_types.specs.Address.{end_point_text};
-ghost use Rattle.spec_trace.specs.Trace.{function_text, handler_text, lease_text, mark_text, mark_words, protocol_text, told_text};
+ghost use Rattle.it_types.specs.Spelling.{function_text};
+ghost use Rattle.spec_trace.specs.Trace.{handler_text, lease_text, mark_text, mark_words, protocol_text, told_text};
 
-use crate::words::{direction_word, function_word, protocol_word, put_bytes, put_code};
+use crate::words::{direction_word, protocol_word, put_bytes, put_code};
 use it_types::words::{put_end_point, put_number, put_numbered, put_word};
 use it_types::{CepId, Dir, EndPt, Er, FnCode, Handler, Mark, NoMemory, ObjId};
 
@@ -28,7 +29,7 @@ fn put_function_and_code(out: &mut Vec<u8>, function: FnCode, code: Er) -> Resul
     ensures { OnOk result (out.new.items ≡ out.old.items ++ (codes " " ++ (function_text function ++ (codes " " ++ signed_decimal code.0)))) }
 {
     put_word(out, b" ")?;
-    put_word(out, function_word(function))?;
+    put_word(out, function.text())?;
     put_code(out, b" ", code)
 }
 

@@ -1,9 +1,9 @@
 ghost use Rattle.std.specs.Prelude.{◌≡◌, ◌++◌, OnOk};
 ghost use Rattle.std.specs.Fmt.{signed_decimal};
-ghost use Rattle.spec_trace.specs.Trace.{bytes_text, direction_text, function_text, protocol_text};
+ghost use Rattle.spec_trace.specs.Trace.{bytes_text, direction_text, protocol_text};
 
 use it_types::words::{put_hex, put_number, put_word};
-use it_types::{Dir, Er, FnCode, NoMemory};
+use it_types::{Dir, Er, NoMemory};
 
 pub fn direction_word(direction: Dir) -> &'static [u8]
     ensures { result.now ≡ direction_text direction }
@@ -18,24 +18,6 @@ pub fn protocol_word(udp: bool) -> &'static [u8]
     ensures { result.now ≡ protocol_text udp }
 {
     if udp { b"udp" } else { b"tcp" }
-}
-
-pub fn function_word(function: FnCode) -> &'static [u8]
-    ensures { result.now ≡ function_text function }
-{
-    match function {
-        FnCode::All => b"all",
-        FnCode::AcpCep => b"acp_cep",
-        FnCode::ConCep => b"con_cep",
-        FnCode::ClsCep => b"cls_cep",
-        FnCode::SndDat => b"snd_dat",
-        FnCode::RcvDat => b"rcv_dat",
-        FnCode::GetBuf => b"get_buf",
-        FnCode::RcvBuf => b"rcv_buf",
-        FnCode::UdpSnd => b"snd_dat",
-        FnCode::UdpRcv => b"rcv_dat",
-        FnCode::UdpEvent => b"event",
-    }
 }
 
 /// Appends the word and the code.

@@ -1,4 +1,4 @@
-use Rattle.s_script.proofs.Fronts.{cut_at, cut_none}
+use Rattle.s_script.proofs.FirstLines.{cut_at, cut_none}
 use Rattle.s_script.proofs.lines.cut.Goals as goal
 
 pub returns : goal.returns
