@@ -5,8 +5,8 @@ use Rattle.it_types.specs.declared.id.EndPt.{EndPt}
 use Rattle.it_types.specs.declared.context.Ctx.TheVariants as contexts
 use Rattle.it_types.specs.declared.conf.TaskDecl.{TaskDecl}
 use Rattle.it_types.specs.declared.conf.SemDecl.{SemDecl}
-use Rattle.it_types.specs.declared.kernel_request.KReq.TheVariants.{ExtTsk, DlyTsk, SigSem, TwaiSem}
-use Rattle.it_types.specs.declared.network_request.NReq.TheVariants.{UdpCreCep, UdpSndDat, UdpRcvDat}
+use Rattle.it_types.specs.declared.request.Req.{Req}
+use Rattle.it_types.specs.declared.request.Req.TheVariants.{ExtTsk, DlyTsk, SigSem, TwaiSem, UdpCreCep, UdpSndDat, UdpRcvDat}
 use Rattle.it_types.specs.declared.timeout.Tmo.{Tmo}
 use Rattle.it_types.specs.declared.answer.Ans.{Ans}
 use Rattle.it_types.specs.declared.answer.Ans.TheVariants as answers
@@ -14,8 +14,6 @@ use Rattle.it_types.specs.declared.mark.Mark.{Mark}
 use Rattle.it_types.specs.declared.mark.Mark.TheVariants as marks
 use Rattle.it_types.specs.declared.entry.CallEnd.{CallEnd}
 use Rattle.it_types.specs.declared.entry.Out.{Out}
-use Rattle.spec_node.specs.declared.event.NodeRequest.{NodeRequest}
-use Rattle.spec_node.specs.declared.event.NodeRequest.TheVariants.{Kernel, Network}
 use Rattle.spec_node.specs.declared.event.NodeEvent.{NodeEvent}
 use Rattle.spec_node.specs.declared.event.NodeEvent.TheVariants.{Call, Return}
 use Rattle.spec_node.specs.PlainNode.{PlainNode, opened_node}
@@ -38,32 +36,32 @@ node addr tasks semaphores = opened_node (record { tasks = record { tasks = task
 
 -- ---- events
 
-abbrev pub calls : ℕ → NodeRequest → NodeEvent
+abbrev pub calls : ℕ → Req → NodeEvent
 calls id request = Call (contexts.Task (record { 0 = id })) request
 
 abbrev pub returns : ℕ → NodeEvent
 returns id = Return (record { 0 = id })
 
-abbrev pub delays : ℕ → NodeRequest
-delays ticks = Kernel (DlyTsk ticks)
+abbrev pub delays : ℕ → Req
+delays ticks = DlyTsk ticks
 
-abbrev pub waits : ℕ → Tmo → NodeRequest
-waits semaphore tmo = Kernel (TwaiSem (record { 0 = semaphore }) tmo)
+abbrev pub waits : ℕ → Tmo → Req
+waits semaphore tmo = TwaiSem (record { 0 = semaphore }) tmo
 
-abbrev pub signals : ℕ → NodeRequest
-signals semaphore = Kernel (SigSem (record { 0 = semaphore }))
+abbrev pub signals : ℕ → Req
+signals semaphore = SigSem (record { 0 = semaphore })
 
-abbrev pub exits : NodeRequest
-exits = Kernel ExtTsk
+abbrev pub exits : Req
+exits = ExtTsk
 
-abbrev pub creates : ℕ → ℕ → ℕ → NodeRequest
-creates cep port routine = Network (UdpCreCep (record { 0 = cep }) port (record { 0 = routine }))
+abbrev pub creates : ℕ → ℕ → ℕ → Req
+creates cep port routine = UdpCreCep (record { 0 = cep }) port (record { 0 = routine })
 
-abbrev pub sends : ℕ → EndPt → List ℕ → Tmo → NodeRequest
-sends cep dest load tmo = Network (UdpSndDat (record { 0 = cep }) dest load tmo)
+abbrev pub sends : ℕ → EndPt → List ℕ → Tmo → Req
+sends cep dest load tmo = UdpSndDat (record { 0 = cep }) dest load tmo
 
-abbrev pub receives : ℕ → ℕ → Tmo → NodeRequest
-receives cep len tmo = Network (UdpRcvDat (record { 0 = cep }) len tmo)
+abbrev pub receives : ℕ → ℕ → Tmo → Req
+receives cep len tmo = UdpRcvDat (record { 0 = cep }) len tmo
 
 -- ---- what they give
 

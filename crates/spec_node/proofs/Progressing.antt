@@ -6,7 +6,7 @@ use Rattle.std.proofs.lemmas.List.{nil_from_length}
 use Rattle.it_types.specs.declared.id.TaskId.{TaskId}
 use Rattle.it_types.specs.declared.id.CallNo.{CallNo}
 use Rattle.it_types.specs.declared.context.Ctx.{Ctx}
-use Rattle.it_types.specs.declared.network_request.NReq.{NReq}
+use Rattle.it_types.specs.declared.request.Req.{Req}
 use Rattle.it_types.specs.Callers.{caller}
 use Rattle.spec_lists.proofs.Firsts.{cases_of_first, take_first-shorter}
 use Rattle.spec_kernel.specs.declared.wait.Wait.{Wait}
@@ -23,7 +23,7 @@ use Rattle.spec_net.specs.declared.outcome.NetAnswer.{NetAnswer}
 use Rattle.spec_net.specs.declared.outcome.NetAnswer.TheVariants as net_answers
 use Rattle.spec_net.specs.NetSettle.{NetAtRest}
 use Rattle.spec_net.specs.NetEnds.{ended}
-use Rattle.spec_net.specs.UdpRows.{timeout_of}
+use Rattle.it_types.specs.Requests.{timeout_of}
 use Rattle.spec_net.proofs.Settling.{ended_rests}
 use Rattle.spec_node.specs.Progress.{Progress, woken_by, after_end, after_ends, after_kernel, time_out, timed_out}
 use Rattle.spec_node.specs.NodeStep.{blocked_where}
@@ -62,12 +62,12 @@ pub woken_by-waits_le : (k : PlainKernel) (es : List NetEnd) → length (woken_b
 woken_by-waits_le k [] = omega arith
 woken_by-waits_le k (e ∷ es) = omega (arith, unblocked-waits_le k e.who, woken_by-waits_le (unblocked k e.who).0 es)
 
-pub blocked_where_rests : (answer : NetAnswer) (k : PlainKernel) (ctx : Ctx) (request : NReq) (number : CallNo) → AtRest k → AtRest (blocked_where answer k ctx request number)
+pub blocked_where_rests : (answer : NetAnswer) (k : PlainKernel) (ctx : Ctx) (request : Req) (number : CallNo) → AtRest k → AtRest (blocked_where answer k ctx request number)
 blocked_where_rests net_answers.Pends k ctx request number rest = blocked_rests k (caller ctx) (timeout_of request) number rest
 blocked_where_rests (net_answers.Now code bytes) k ctx request number rest = rest
 blocked_where_rests net_answers.Quiet k ctx request number rest = rest
 
-pub blocked_where_none_past : (answer : NetAnswer) (k : PlainKernel) (ctx : Ctx) (request : NReq) (number : CallNo) → NoneIsPast k → NoneIsPast (blocked_where answer k ctx request number)
+pub blocked_where_none_past : (answer : NetAnswer) (k : PlainKernel) (ctx : Ctx) (request : Req) (number : CallNo) → NoneIsPast k → NoneIsPast (blocked_where answer k ctx request number)
 blocked_where_none_past net_answers.Pends k ctx request number past = blocked_none_past k (caller ctx) (timeout_of request) number past
 blocked_where_none_past (net_answers.Now code bytes) k ctx request number past = past
 blocked_where_none_past net_answers.Quiet k ctx request number past = past

@@ -4,7 +4,7 @@ use Rattle.it_types.specs.declared.id.TaskId.{TaskId}
 use Rattle.it_types.specs.declared.id.CallNo.{CallNo}
 use Rattle.it_types.specs.declared.context.Ctx.{Ctx}
 use Rattle.it_types.specs.declared.kernel_request.KReq.{KReq}
-use Rattle.it_types.specs.declared.network_request.NReq.{NReq}
+use Rattle.it_types.specs.declared.request.Req.{Req}
 use Rattle.it_types.specs.declared.answer.Ans.{Ans}
 use Rattle.it_types.specs.declared.answer.Ans.TheVariants as answers
 use Rattle.it_types.specs.declared.mark.Mark.{Mark}
@@ -12,6 +12,7 @@ use Rattle.it_types.specs.declared.mark.Mark.TheVariants as marks
 use Rattle.it_types.specs.declared.entry.CallEnd.{CallEnd}
 use Rattle.it_types.specs.declared.entry.Out.{Out}
 use Rattle.it_types.specs.Callers.{caller, nobody}
+use Rattle.it_types.specs.Requests.{kernel_of, timeout_of}
 use Rattle.spec_lists.specs.Tables.{get}
 use Rattle.spec_kernel.specs.declared.outcome.KAns.{KAns}
 use Rattle.spec_kernel.specs.declared.outcome.KAns.TheVariants as kernel_answers
@@ -20,11 +21,9 @@ use Rattle.spec_kernel.specs.Rows.{call, tick}
 use Rattle.spec_kernel.specs.Outside.{blocked}
 use Rattle.spec_net.specs.declared.outcome.NetAnswer.{NetAnswer}
 use Rattle.spec_net.specs.declared.outcome.NetAnswer.TheVariants as net_answers
-use Rattle.spec_net.specs.UdpRows.{net_call, timeout_of}
+use Rattle.spec_net.specs.UdpRows.{net_call}
 use Rattle.spec_net.specs.Arrival.{arrive}
 use Rattle.spec_node.specs.declared.held.Held.{Held}
-use Rattle.spec_node.specs.declared.event.NodeRequest.{NodeRequest}
-use Rattle.spec_node.specs.declared.event.NodeRequest.TheVariants.{Kernel, Network}
 use Rattle.spec_node.specs.declared.event.NodeEvent.{NodeEvent}
 use Rattle.spec_node.specs.declared.event.NodeEvent.TheVariants.{Call, Return, Tick, Arrive}
 use Rattle.spec_node.specs.PlainNode.{PlainNode, running_in}
@@ -45,8 +44,10 @@ net_answer number net_answers.Quiet = answers.Quiet
 
 -- how many numbers an answer draws
 abbrev pub drawn : Ans → ℕ
+drawn (answers.Now code bytes) = 0
 drawn (answers.Pends number) = 1
-drawn _ = 0
+drawn (answers.Later number) = 0
+drawn answers.Quiet = 0
 
 abbrev pub call_end : TaskEnd → CallEnd
 call_end e = record { call = e.call; code = e.code; bytes = e.bytes }
@@ -96,12 +97,13 @@ kernel_called n ctx request =
     done n (kernel_answer (n.calls + 1) o.answer) o.gone o.begun (after_kernel (beginning n) o)
 
 -- a call of the network part that waits makes its task wait outside, under the call's number
-abbrev pub blocked_where : NetAnswer → PlainKernel → Ctx → NReq → CallNo → PlainKernel
+abbrev pub blocked_where : NetAnswer → PlainKernel → Ctx → Req → CallNo → PlainKernel
 blocked_where net_answers.Pends k ctx request number = blocked k (caller ctx) (timeout_of request) number
-blocked_where _ k ctx request number = k
+blocked_where (net_answers.Now code bytes) k ctx request number = k
+blocked_where net_answers.Quiet k ctx request number = k
 
 -- a call of the network part: if it waits it gets the next number
-unfoldable pub network_called : PlainNode → Ctx → NReq → PlainNode × Out
+unfoldable pub network_called : PlainNode → Ctx → Req → PlainNode × Out
 network_called n ctx request =
     let o = net_call n.net ctx request (record { 0 = n.calls + 1 }) in
     done n (net_answer (n.calls + 1) o.answer) nobody nobody (after_net (record (beginning n) { kernel = blocked_where o.answer n.kernel ctx request (record { 0 = n.calls + 1 }) }) o)
@@ -126,13 +128,14 @@ returned n task = (
   record { ans = held_answer (get n.held task.0); ends = []; marks = []; packs = [] },
 )
 
-abbrev pub called : PlainNode → Ctx → NodeRequest → PlainNode × Out
-called n ctx (Kernel request) = kernel_called n ctx request
-called n ctx (Network request) = network_called n ctx request
+-- a call: one of the kernel's, or one of the network part's
+abbrev pub called_as : PlainNode → Ctx → Req → Option KReq → PlainNode × Out
+called_as n ctx request (Some call) = kernel_called n ctx call
+called_as n ctx request None = network_called n ctx request
 
 -- the step of an event: the node after it, and what it gives
 unfoldable pub node_step : PlainNode → NodeEvent → PlainNode × Out
-node_step n (Call ctx request) = called n ctx request
+node_step n (Call ctx request) = called_as n ctx request (kernel_of request)
 node_step n (Return task) = returned n task
 node_step n Tick = ticked n
 node_step n (Arrive bytes) = arrived n bytes
