@@ -13,7 +13,6 @@ use Rattle.it_types.specs.declared.node_conf.Conf.{Conf}
 use Rattle.spec_node.specs.declared.event.NodeEvent.{NodeEvent}
 use Rattle.spec_node.specs.declared.event.NodeEvent.TheVariants.{Call, Return, Tick, Arrive}
 use Rattle.spec_node.specs.PlainNode.{PlainNode}
-use Rattle.spec_node.specs.Parts.{part_of}
 use Rattle.spec_node.specs.NodeStep.{node_step}
 use Rattle.spec_world.specs.PlainWorld.{Packet, PlainWorld, packet_from, peer_of, step_at, delivery, step, opened_world}
 use Rattle.spec_world.specs.Sizes.{entry_limit, is_full}
@@ -62,7 +61,7 @@ delivery_within m w number (Some packet) h = step_at_within m w (peer_of packet.
 
 pub step_within : (m : ℕ) (w : PlainWorld) (event : Event) → AreWithin m w → AreWithin (m + 1) (step w event).0
 unfolding step
-step_within m w (events.Call id ctx request) h = step_at_within m w id (Call ctx (part_of request)) (events.Call id ctx request) h
+step_within m w (events.Call id ctx request) h = step_at_within m w id (Call ctx request) (events.Call id ctx request) h
 step_within m w (events.Return id task) h = step_at_within m w id (Return task) (events.Return id task) h
 step_within m w (events.Tick id) h = step_at_within m w id Tick (events.Tick id) h
 step_within m w (events.Begin id) h = within_more m w h

@@ -1,24 +1,18 @@
 -- Each event draws at most one call number, ticks a node's clock at most once, and sends at most one packet.
 use Rattle.std.proofs.Common.{◌≡◌, ℕ, zero, suc, ◌+◌, ◌≤◌, List, [], ◌∷◌, ◌++◌, length, Option, Some, None, refl, ap, ◌∙◌, inl, inr, arith}
-use Rattle.spec_node.proofs.Progressing.{woken_by_keeps}
 use Rattle.std.proofs.lemmas.Bool.{cases_Bool}
 use Rattle.std.proofs.lemmas.List.{append-nil}
 use Rattle.it_types.specs.declared.id.TaskId.{TaskId}
-use Rattle.it_types.specs.declared.id.CepId.{CepId}
 use Rattle.it_types.specs.declared.id.CallNo.{CallNo}
 use Rattle.it_types.specs.declared.er.Er.{Er}
 use Rattle.it_types.specs.declared.answer.Ans.{Ans}
 use Rattle.it_types.specs.declared.answer.Ans.TheVariants as answers
 use Rattle.it_types.specs.declared.context.Ctx.{Ctx}
 use Rattle.it_types.specs.declared.kernel_request.KReq.{KReq}
-use Rattle.it_types.specs.declared.network_request.NReq.{NReq}
-use Rattle.it_types.specs.declared.network_request.NReq.TheVariants.{UdpCreCep, UdpSndDat, UdpRcvDat}
+use Rattle.it_types.specs.declared.request.Req.{Req}
 use Rattle.it_types.specs.declared.entry.Out.{Out}
-use Rattle.it_types.specs.declared.timeout.Tmo.{Tmo}
-use Rattle.it_types.specs.Callers.{caller, is_poll}
+use Rattle.it_types.specs.Requests.{kernel_of}
 use Rattle.spec_lists.proofs.Firsts.{cases_of_first}
-use Rattle.spec_lists.specs.Refusal.{first_refusal}
-use Rattle.spec_lists.specs.Tables.{get}
 use Rattle.spec_kernel.specs.declared.outcome.KEnd.{KEnd}
 use Rattle.spec_kernel.specs.declared.wait.Wait.{Wait}
 use Rattle.spec_kernel.specs.PlainKernel.{PlainKernel}
@@ -27,25 +21,22 @@ use Rattle.spec_kernel.specs.Deadlines.{next_past, ended_by_time, by_time}
 use Rattle.spec_kernel.specs.Rows.{call, tick, ticked, quiet}
 use Rattle.spec_kernel.proofs.Settling.{call-now, settled-now}
 use Rattle.spec_kernel.proofs.Timing.{next_past_none, due_none, due_some}
-use Rattle.spec_net.specs.declared.point.Received.{Received}
 use Rattle.spec_net.specs.declared.pending.NetCall.{NetCall}
-use Rattle.spec_net.specs.declared.pending.PendingRequest.{PendingRequest}
-use Rattle.spec_net.specs.declared.pending.PendingRequest.TheVariants.{UdpReceive}
 use Rattle.spec_net.specs.declared.outcome.NetAnswer.{NetAnswer}
 use Rattle.spec_net.specs.declared.outcome.NetAnswer.TheVariants as net_answers
 use Rattle.spec_net.specs.declared.outcome.NetEnd.{NetEnd}
 use Rattle.spec_net.specs.PlainNet.{PlainNet, NetOutcome}
-use Rattle.spec_net.specs.Receiving.{queue_of}
 use Rattle.spec_net.specs.NetSettle.{net_settled}
-use Rattle.spec_net.specs.UdpRows.{refusals, accepted, received, carried_out, unless_refused, row, net_call}
+use Rattle.spec_net.specs.UdpRows.{row, net_call}
 use Rattle.spec_net.specs.Arrival.{arrive}
 use Rattle.spec_net.specs.NetEnds.{numbered, ended_at, ended}
-use Rattle.spec_node.specs.declared.event.NodeRequest.TheVariants.{Kernel, Network}
 use Rattle.spec_node.specs.declared.event.NodeEvent.{NodeEvent}
 use Rattle.spec_node.specs.declared.event.NodeEvent.TheVariants.{Call, Return, Tick, Arrive}
 use Rattle.spec_node.specs.PlainNode.{PlainNode}
 use Rattle.spec_node.specs.Progress.{Progress, woken_by, after_end, after_ends, after_kernel, time_out, timed_out}
-use Rattle.spec_node.specs.NodeStep.{beginning, blocked_where, kernel_answer, net_answer, drawn, kernel_called, network_called, arrived, ticked as ticked_node, returned, node_step}
+use Rattle.spec_node.specs.NodeStep.{beginning, blocked_where, kernel_answer, net_answer, drawn, kernel_called, network_called, called_as, arrived, ticked as ticked_node, returned, node_step}
+use Rattle.spec_node.proofs.Progressing.{woken_by_keeps}
+use Rattle.spec_node.proofs.NetActs.{row_acts}
 
 -- ---- numbers
 
@@ -60,7 +51,7 @@ drawn_le answers.Quiet = omega arith
 woken_by-now : (k : PlainKernel) (es : List NetEnd) → (woken_by k es).now ≡ k.now
 woken_by-now k es = woken_by_keeps (λ (k : PlainKernel). k.now) (λ k w others. refl) k es
 
-blocked_where-now : (answer : NetAnswer) (k : PlainKernel) (ctx : Ctx) (request : NReq) (number : CallNo) → (blocked_where answer k ctx request number).now ≡ k.now
+blocked_where-now : (answer : NetAnswer) (k : PlainKernel) (ctx : Ctx) (request : Req) (number : CallNo) → (blocked_where answer k ctx request number).now ≡ k.now
 blocked_where-now net_answers.Pends k ctx request number = refl
 blocked_where-now (net_answers.Now code bytes) k ctx request number = refl
 blocked_where-now net_answers.Quiet k ctx request number = refl
@@ -75,29 +66,18 @@ net_settled-packets o = refl
 abbrev SendsUpTo : ℕ → NetOutcome → Type 0
 SendsUpTo n o = length o.packets ≤ n
 
-accepted_sends : (net : PlainNet) (task : TaskId) (request : PendingRequest) (tmo : Tmo) (number : CallNo) → SendsUpTo 0 (accepted net task request tmo number)
-accepted_sends net task request tmo number = elim (cases_Bool (is_poll tmo)) [
-  | inl t ↦ rw t (omega arith)
-  | inr f ↦ rw f (omega arith)
-]
+row_sends : (net : PlainNet) (ctx : Ctx) (request : Req) (number : CallNo) → SendsUpTo 1 (row net ctx request number)
+row_sends net ctx request number = row_acts (λ o. SendsUpTo 1 o) (record {
+  answers = λ code. omega arith;
+  makes = λ cep point none free empty. omega arith;
+  sends = λ code packet. omega arith;
+  takes = λ cep code bytes. omega arith;
+  waits = λ cep len there none. omega arith;
+}) request
 
-received_sends : (net : PlainNet) (task : TaskId) (cep : CepId) (len : ℕ) (tmo : Tmo) (number : CallNo) (queue : List Received) → SendsUpTo 0 (received net task cep len tmo number queue)
-received_sends net task cep len tmo number [] = accepted_sends net task (UdpReceive cep len) tmo number
-received_sends net task cep len tmo number (d ∷ ds) = omega arith
-
-carried_out_sends : (net : PlainNet) (ctx : Ctx) (request : NReq) (number : CallNo) → SendsUpTo 1 (carried_out net ctx request number)
-carried_out_sends net ctx (UdpCreCep cep port cbr) number = omega arith
-carried_out_sends net ctx (UdpSndDat cep dest load tmo) number = omega arith
-carried_out_sends net ctx (UdpRcvDat cep len tmo) number = omega (arith, received_sends net (caller ctx) cep len tmo number (queue_of (get net.udp cep.0)))
-
-unless_refused_sends : (refusal : Option Er) (net : PlainNet) (o : NetOutcome) → SendsUpTo 1 o → SendsUpTo 1 (unless_refused refusal net o)
-unless_refused_sends (Some code) net o h = omega arith
-unless_refused_sends None net o h = h
-
-net_call_sends : (net : PlainNet) (ctx : Ctx) (request : NReq) (number : CallNo) → SendsUpTo 1 (net_call net ctx request number)
+net_call_sends : (net : PlainNet) (ctx : Ctx) (request : Req) (number : CallNo) → SendsUpTo 1 (net_call net ctx request number)
 unfolding net_call
-net_call_sends net ctx request number =
-    omega (arith, ap length (net_settled-packets (row net ctx request number)), unless_refused_sends (first_refusal (refusals net ctx request)) net (carried_out net ctx request number) (carried_out_sends net ctx request number))
+net_call_sends net ctx request number = omega (arith, ap length (net_settled-packets (row net ctx request number)), row_sends net ctx request number)
 
 arrive_sends : (net : PlainNet) (bytes : List ℕ) → (arrive net bytes).packets ≡ []
 unfolding arrive net_settled
@@ -179,7 +159,7 @@ kernel_called_on n ctx request =
       packs = omega (arith, ap length (after_kernel-packets (beginning n) o));
     }
 
-network_called_on : (n : PlainNode) (ctx : Ctx) (request : NReq) → StepsOn n (network_called n ctx request)
+network_called_on : (n : PlainNode) (ctx : Ctx) (request : Req) → StepsOn n (network_called n ctx request)
 unfolding network_called
 network_called_on n ctx request =
     let number : CallNo = record { 0 = n.calls + 1 } in
@@ -215,10 +195,13 @@ returned_on : (n : PlainNode) (task : TaskId) → StepsOn n (returned n task)
 unfolding returned
 returned_on n task = record { calls = omega arith; now = omega arith; packs = omega arith }
 
+called_on : (n : PlainNode) (ctx : Ctx) (request : Req) (call : Option KReq) → StepsOn n (called_as n ctx request call)
+called_on n ctx request (Some call) = kernel_called_on n ctx call
+called_on n ctx request None = network_called_on n ctx request
+
 pub node_steps_on : (n : PlainNode) (event : NodeEvent) → StepsOn n (node_step n event)
 unfolding node_step
-node_steps_on n (Call ctx (Kernel request)) = kernel_called_on n ctx request
-node_steps_on n (Call ctx (Network request)) = network_called_on n ctx request
+node_steps_on n (Call ctx request) = called_on n ctx request (kernel_of request)
 node_steps_on n (Return task) = returned_on n task
 node_steps_on n Tick = ticked_on n
 node_steps_on n (Arrive bytes) = arrived_on n bytes

@@ -7,7 +7,6 @@ use Rattle.it_types.specs.declared.event.Event.{Event}
 use Rattle.it_types.specs.declared.event.Event.TheVariants as events
 use Rattle.spec_node.specs.declared.event.NodeEvent.{NodeEvent}
 use Rattle.spec_node.specs.declared.event.NodeEvent.TheVariants.{Call, Return, Tick}
-use Rattle.spec_node.specs.Parts.{part_of}
 use Rattle.spec_node.specs.Admitted as node
 use Rattle.spec_world.specs.PlainWorld.{Nodes, Packet, PlainWorld, node_at}
 
@@ -19,9 +18,10 @@ abbrev pub is_sent : List Packet → PackNo → Bool
 is_sent packets number = nat_lt number.0 (length packets)
 
 abbrev pub is_admitted : PlainWorld → Event → Bool
-is_admitted w (events.Call id ctx request) = is_admitted_at w.nodes id (Call ctx (part_of request))
+is_admitted w (events.Call id ctx request) = is_admitted_at w.nodes id (Call ctx request)
 is_admitted w (events.Return id task) = is_admitted_at w.nodes id (Return task)
 is_admitted w (events.Tick id) = is_admitted_at w.nodes id Tick
 is_admitted w (events.Deliver number) = is_sent w.packets number
 is_admitted w events.Stop = true
-is_admitted w _ = false
+is_admitted w (events.Begin id) = false
+is_admitted w (events.Finish id) = false

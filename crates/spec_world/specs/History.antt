@@ -14,8 +14,13 @@ use Rattle.spec_world.specs.Sizes.{is_full}
 -- ---- runs
 
 abbrev pub is_stop : Event → Bool
+is_stop (events.Call id ctx request) = false
+is_stop (events.Return id task) = false
+is_stop (events.Begin id) = false
+is_stop (events.Finish id) = false
+is_stop (events.Tick id) = false
+is_stop (events.Deliver number) = false
 is_stop events.Stop = true
-is_stop _ = false
 
 abbrev pub ends_with_stop : List Entry → Bool
 ends_with_stop [] = false
@@ -59,8 +64,13 @@ world_of h = after (opened_world h.conf) h.log
 
 -- the event is the delivery of a packet that was not sent
 abbrev pub is_unsent : PlainWorld → Event → Bool
+is_unsent w (events.Call id ctx request) = false
+is_unsent w (events.Return id task) = false
+is_unsent w (events.Begin id) = false
+is_unsent w (events.Finish id) = false
+is_unsent w (events.Tick id) = false
 is_unsent w (events.Deliver number) = not (is_sent w.packets number)
-is_unsent w _ = false
+is_unsent w events.Stop = false
 
 -- the tests that refuse an event, in their order
 abbrev pub refusals : History → Event → List (Bool × WErr)

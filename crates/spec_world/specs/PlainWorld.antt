@@ -12,7 +12,6 @@ use Rattle.it_types.specs.declared.node_conf.Conf.{Conf}
 use Rattle.it_types.specs.Configuration.{kernel_conf, first_conf, second_conf}
 use Rattle.spec_node.specs.declared.event.NodeEvent.{NodeEvent}
 use Rattle.spec_node.specs.declared.event.NodeEvent.TheVariants.{Call, Return, Tick, Arrive}
-use Rattle.spec_node.specs.Parts.{part_of}
 use Rattle.spec_node.specs.PlainNode.{PlainNode, opened_node}
 use Rattle.spec_node.specs.NodeStep.{node_step}
 
@@ -68,11 +67,13 @@ delivery w number (Some packet) = step_at w (peer_of packet.sender) (Arrive pack
 
 -- the step of an event: the world after it and its entry
 unfoldable pub step : PlainWorld → Event → PlainWorld × Entry
-step w (events.Call id ctx request) = step_at w id (Call ctx (part_of request)) (events.Call id ctx request)
+step w (events.Call id ctx request) = step_at w id (Call ctx request) (events.Call id ctx request)
 step w (events.Return id task) = step_at w id (Return task) (events.Return id task)
 step w (events.Tick id) = step_at w id Tick (events.Tick id)
 step w (events.Deliver number) = delivery w number (slice_get w.packets number.0)
-step w event = (w, plain_entry event)
+step w (events.Begin id) = (w, plain_entry (events.Begin id))
+step w (events.Finish id) = (w, plain_entry (events.Finish id))
+step w events.Stop = (w, plain_entry events.Stop)
 
 -- ---- the opening
 

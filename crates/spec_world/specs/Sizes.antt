@@ -1,40 +1,55 @@
 -- How many bytes of data a history holds, and when it is full. It is this project's own.
 use Rattle.std.specs.Prelude.{ℕ, ◌+◌, Bool, ◌||◌, List, length, nat_le, sum_by}
 use Rattle.it_types.specs.declared.request.Req.{Req}
-use Rattle.it_types.specs.declared.request.Req.TheVariants.{UdpSndDat}
 use Rattle.it_types.specs.declared.event.Event.{Event}
-use Rattle.it_types.specs.declared.event.Event.TheVariants.{Call}
+use Rattle.it_types.specs.declared.event.Event.TheVariants as events
 use Rattle.it_types.specs.declared.answer.Ans.{Ans}
-use Rattle.it_types.specs.declared.answer.Ans.TheVariants.{Now}
+use Rattle.it_types.specs.declared.answer.Ans.TheVariants as answers
 use Rattle.it_types.specs.declared.handler.Handler.{Handler}
-use Rattle.it_types.specs.declared.handler.Handler.TheVariants.{Cbr}
+use Rattle.it_types.specs.declared.handler.Handler.TheVariants as handlers
 use Rattle.it_types.specs.declared.mark.Mark.{Mark}
-use Rattle.it_types.specs.declared.mark.Mark.TheVariants.{Entered}
+use Rattle.it_types.specs.declared.mark.Mark.TheVariants as marks
 use Rattle.it_types.specs.declared.entry.CallEnd.{CallEnd}
 use Rattle.it_types.specs.declared.entry.Entry.{Entry}
+use Rattle.it_types.specs.Requests.{load_of}
 
 abbrev pub request_size : Req → ℕ
-request_size (UdpSndDat cep dest load tmo) = length load
-request_size _ = 0
+request_size request = length (load_of request)
 
 abbrev pub event_size : Event → ℕ
-event_size (Call id ctx request) = request_size request
-event_size _ = 0
+event_size (events.Call id ctx request) = request_size request
+event_size (events.Return id task) = 0
+event_size (events.Begin id) = 0
+event_size (events.Finish id) = 0
+event_size (events.Tick id) = 0
+event_size (events.Deliver number) = 0
+event_size events.Stop = 0
 
 abbrev pub answer_size : Ans → ℕ
-answer_size (Now code bytes) = length bytes
-answer_size _ = 0
+answer_size (answers.Now code bytes) = length bytes
+answer_size (answers.Pends number) = 0
+answer_size (answers.Later number) = 0
+answer_size answers.Quiet = 0
 
 abbrev pub end_size : CallEnd → ℕ
 end_size e = length e.bytes
 
 abbrev pub handler_size : Handler → ℕ
-handler_size (Cbr cbr udp cep func code bytes) = length bytes
-handler_size _ = 0
+handler_size (handlers.Cyc cyc) = 0
+handler_size (handlers.Cbr cbr udp cep func code bytes) = length bytes
 
 abbrev pub mark_size : Mark → ℕ
-mark_size (Entered what) = handler_size what
-mark_size _ = 0
+mark_size (marks.Gone task) = 0
+mark_size (marks.Begun task) = 0
+mark_size (marks.Entered what) = handler_size what
+mark_size (marks.Started cep mine peer iss) = 0
+mark_size (marks.Opened cep iss irs) = 0
+mark_size (marks.Broken cep) = 0
+mark_size (marks.Over cep) = 0
+mark_size (marks.Lent cep dir from len) = 0
+mark_size (marks.Back cep dir from len) = 0
+mark_size (marks.Callback cbr udp cep func code) = 0
+mark_size (marks.Run task) = 0
 
 abbrev pub pack_size : List ℕ → ℕ
 pack_size bytes = length bytes
