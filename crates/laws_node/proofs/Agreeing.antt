@@ -10,7 +10,8 @@ use Rattle.it_types.specs.declared.timeout.Tmo.{Tmo}
 use Rattle.it_types.specs.declared.context.Ctx.{Ctx}
 use Rattle.it_types.specs.declared.context.Ctx.TheVariants as contexts
 use Rattle.it_types.specs.declared.kernel_request.KReq.{KReq}
-use Rattle.it_types.specs.declared.network_request.NReq.{NReq}
+use Rattle.it_types.specs.declared.request.Req.{Req}
+use Rattle.it_types.specs.Requests.{kernel_of, timeout_of}
 use Rattle.spec_lists.proofs.Firsts.{cases_of_first}
 use Rattle.spec_kernel.specs.declared.wait.Wait.{Wait}
 use Rattle.spec_kernel.specs.declared.wait.WaitFor.TheVariants as targets
@@ -29,15 +30,14 @@ use Rattle.spec_net.specs.declared.pending.PendingRequest.{PendingRequest}
 use Rattle.spec_net.specs.PlainNet.{PlainNet, NetOutcome}
 use Rattle.spec_net.specs.Packets.{Arrived, arrived_in}
 use Rattle.spec_net.specs.NetSettle.{net_settled}
-use Rattle.spec_net.specs.UdpRows.{row, net_call, timeout_of}
+use Rattle.spec_net.specs.UdpRows.{row, net_call}
 use Rattle.spec_net.specs.Arrival.{after_arrival, quiet, arrive}
 use Rattle.spec_net.specs.NetEnds.{ended}
-use Rattle.spec_node.specs.declared.event.NodeRequest.TheVariants.{Kernel, Network}
 use Rattle.spec_node.specs.declared.event.NodeEvent.{NodeEvent}
 use Rattle.spec_node.specs.declared.event.NodeEvent.TheVariants.{Call, Return, Tick, Arrive}
 use Rattle.spec_node.specs.PlainNode.{PlainNode, running_task, holds_answer}
 use Rattle.spec_node.specs.Progress.{Progress, woken_by, after_end, after_ends, after_kernel, time_out, timed_out}
-use Rattle.spec_node.specs.NodeStep.{beginning, blocked_where, kernel_answer, net_answer, drawn, kernel_called, network_called, arrived, ticked, returned, node_step}
+use Rattle.spec_node.specs.NodeStep.{beginning, blocked_where, kernel_answer, net_answer, drawn, kernel_called, network_called, called_as, arrived, ticked, returned, node_step}
 use Rattle.spec_node.specs.Admitted.{is_running, is_admitted}
 use Rattle.laws_kernel.specs.Runnable.{one_if, times_listed}
 use Rattle.laws_kernel.specs.Ranks.{task_draws, call_draws, call_by_rank}
@@ -229,7 +229,7 @@ now_sound k net after calls h e = record {
   below = subst (AllBelow call_number (calls + 1)) (sym e) h.below;
 }
 
-pub row_sound : (n : PlainNode) (t : TaskId) (request : NReq) (o : NetOutcome)
+pub row_sound : (n : PlainNode) (t : TaskId) (request : Req) (o : NetOutcome)
     → SoundNode n
     → 1 ≤ times_listed t.0 n.kernel.runnable
     → Does n.net (contexts.Task t) (record { 0 = n.calls + 1 }) o
@@ -237,7 +237,7 @@ pub row_sound : (n : PlainNode) (t : TaskId) (request : NReq) (o : NetOutcome)
 row_sound n t request o h listed (none, inl p) = rw p.0 (waits_sound n.kernel n.net o.net n.calls t (timeout_of request) p.1.0 h listed p.1.1)
 row_sound n t request o h listed (none, inr p) = rw p.2 (now_sound n.kernel n.net o.net (n.calls + 0) (no_more n h) p.3)
 
-network_called_sound : (n : PlainNode) (t : TaskId) (request : NReq) → 1 ≤ times_listed t.0 n.kernel.runnable → SoundNode n → SoundNode (network_called n (contexts.Task t) request).0
+network_called_sound : (n : PlainNode) (t : TaskId) (request : Req) → 1 ≤ times_listed t.0 n.kernel.runnable → SoundNode n → SoundNode (network_called n (contexts.Task t) request).0
 unfolding network_called net_call net_settled
 network_called_sound n t request listed h =
     let number : CallNo = record { 0 = n.calls + 1 } in
@@ -252,12 +252,14 @@ may_call n task e =
     let parts = and_parts (not (task.0 == 0)) ((running_task n).0 == task.0) e in
     (λ z. absurd (let f : not true ≡ true = ap not (sym (eq-eqb task.0 0 z)) ∙ parts.0 in cc), ap (λ i. record { 0 = i }) (eqb-true _ _ parts.1))
 
+called_sound : (n : PlainNode) (t : TaskId) (request : Req) (call : Option KReq) → is_running n t ≡ true → SoundNode n → SoundNode (called_as n (contexts.Task t) request call).0
+called_sound n t request (Some call) runs h = kernel_called_sound n (contexts.Task t) call (may_call n t runs) h
+called_sound n t request None runs h =
+    let may = may_call n t runs in network_called_sound n t request (running_listed n.kernel.tasks n.kernel.runnable t may.0 may.1) h
+
 pub step_sound : (n : PlainNode) (event : NodeEvent) → SoundNode n → is_admitted n event ≡ true → SoundNode (node_step n event).0
 unfolding node_step
-step_sound n (Call (contexts.Task task) (Kernel request)) h e =
-    kernel_called_sound n (contexts.Task task) request (may_call n task (and_parts (is_running n task) (not (holds_answer n task)) e).0) h
-step_sound n (Call (contexts.Task task) (Network request)) h e =
-    let may = may_call n task (and_parts (is_running n task) (not (holds_answer n task)) e).0 in network_called_sound n task request (running_listed n.kernel.tasks n.kernel.runnable task may.0 may.1) h
+step_sound n (Call (contexts.Task task) request) h e = called_sound n task request (kernel_of request) (and_parts (is_running n task) (not (holds_answer n task)) e).0 h
 step_sound n (Call contexts.Handler request) h e = absurd cc
 step_sound n (Return task) h e = returned_sound n task h
 step_sound n Tick h e = ticked_sound n h

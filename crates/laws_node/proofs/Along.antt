@@ -1,46 +1,41 @@
 -- Over every list of events both parts of a node agree.
-use Rattle.std.proofs.Common.{◌≡◌, ℕ, zero, suc, ◌+◌, ◌≤◌, Bool, true, false, not, ltb, List, [], ◌∷◌, length, slice_set, Option, Some, None, is_some, refl, sym, ap, ◌∙◌, inl, inr, arith}
+use Rattle.std.proofs.Common.{◌≡◌, ℕ, zero, suc, ◌+◌, ◌≤◌, Bool, true, false, not, List, [], ◌∷◌, length, slice_set, Option, Some, None, is_some, refl, sym, ap, ◌∙◌, inl, inr, arith}
 use Rattle.std.specs.Prelude.{◌==◌}
-use Rattle.std.proofs.lemmas.Bool.{cases_Bool, cases_eq, ne_eqb, and_parts, not-true}
+use Rattle.std.proofs.lemmas.Bool.{cases_eq, ne_eqb, and_parts, not-true}
 use Rattle.std.proofs.lemmas.List.{get_or-set_other}
 use Rattle.it_types.specs.declared.id.TaskId.{TaskId}
 use Rattle.it_types.specs.declared.id.CallNo.{CallNo}
-use Rattle.it_types.specs.declared.er.Er.{Er}
 use Rattle.it_types.specs.declared.timeout.Tmo.{Tmo}
-use Rattle.it_types.specs.declared.timeout.Tmo.TheVariants as timeouts
 use Rattle.it_types.specs.declared.context.Ctx.{Ctx}
 use Rattle.it_types.specs.declared.context.Ctx.TheVariants as contexts
 use Rattle.it_types.specs.declared.conf.KConf.{KConf}
 use Rattle.it_types.specs.declared.kernel_request.KReq.{KReq}
-use Rattle.it_types.specs.declared.kernel_request.KReq.TheVariants.{ExtTsk, DlyTsk, SigSem, TwaiSem}
-use Rattle.it_types.specs.declared.network_request.NReq.{NReq}
-use Rattle.it_types.specs.Callers.{caller, is_poll}
+use Rattle.it_types.specs.declared.request.Req.{Req}
+use Rattle.it_types.specs.Callers.{caller}
+use Rattle.it_types.specs.Requests.{kernel_of, timeout_of}
 use Rattle.spec_lists.specs.Tables.{get}
-use Rattle.spec_lists.specs.Refusal.{first_refusal}
 use Rattle.spec_kernel.specs.declared.wait.WaitFor.{WaitFor}
 use Rattle.spec_kernel.specs.declared.wait.WaitFor.TheVariants as targets
 use Rattle.spec_kernel.specs.PlainKernel.{PlainKernel}
-use Rattle.spec_kernel.specs.Semaphores.{count_of}
 use Rattle.spec_kernel.specs.Settle.{Outcome, settled}
-use Rattle.spec_kernel.specs.Rows.{refusals, deadline_of, waiting, accepted, carried_out, unless_refused, row, call}
+use Rattle.spec_kernel.specs.Rows.{deadline_of, waiting, row, call}
 use Rattle.spec_kernel.specs.Rows as kernel_rows
 use Rattle.spec_kernel.specs.Opening.{IsDeclarable}
+use Rattle.spec_kernel.proofs.RowActs.{row_acts}
 use Rattle.spec_net.specs.declared.pending.NetCall.{NetCall}
 use Rattle.spec_net.specs.declared.outcome.NetAnswer.{NetAnswer}
 use Rattle.spec_net.specs.declared.outcome.NetAnswer.TheVariants as net_answers
 use Rattle.spec_net.specs.PlainNet.{NetOutcome}
-use Rattle.spec_net.specs.UdpRows.{timeout_of}
 use Rattle.spec_net.specs.Packets.{arrived_in}
 use Rattle.spec_net.specs.NetSettle.{net_settled}
 use Rattle.spec_net.specs.UdpRows as net_rows
 use Rattle.spec_net.specs.Arrival.{after_arrival, quiet, arrive}
 use Rattle.spec_node.specs.declared.held.Held.{Held}
-use Rattle.spec_node.specs.declared.event.NodeRequest.TheVariants.{Kernel, Network}
 use Rattle.spec_node.specs.declared.event.NodeEvent.{NodeEvent}
 use Rattle.spec_node.specs.declared.event.NodeEvent.TheVariants.{Call, Return, Tick, Arrive}
 use Rattle.spec_node.specs.PlainNode.{PlainNode, opened_node, holds_answer}
 use Rattle.spec_node.specs.Progress.{Progress, woken_by, after_kernel, timed_out}
-use Rattle.spec_node.specs.NodeStep.{beginning, blocked_where, net_answer, drawn, kernel_called, network_called, arrived, ticked, returned, node_step}
+use Rattle.spec_node.specs.NodeStep.{beginning, blocked_where, net_answer, drawn, kernel_called, network_called, called_as, arrived, ticked, returned, node_step}
 use Rattle.spec_node.specs.Admitted.{is_running, is_admitted}
 use Rattle.laws_kernel.specs.Runnable.{one_if, times_listed, times_waiting}
 use Rattle.laws_kernel.proofs.Counting.{waiting_end}
@@ -65,36 +60,25 @@ waiting_grows : (k : PlainKernel) (task : TaskId) (target : WaitFor) (tmo : Tmo)
 waiting_grows k task target tmo number id =
     omega (arith, waiting_end id k.waits (record { call = number; task = task; target = target; deadline = deadline_of k.now tmo }))
 
-accepted_grows : (k : PlainKernel) (task : TaskId) (target : WaitFor) (tmo : Tmo) (number : CallNo) → Grows k task (accepted k task target tmo number).kernel
-accepted_grows k task target tmo number id = elim (cases_Bool (is_poll tmo)) [
-  | inl t ↦ rw t (omega arith)
-  | inr t ↦ rw t (waiting_grows k task target tmo number id)
-]
-
-carried_out_grows : (k : PlainKernel) (ctx : Ctx) (request : KReq) (number : CallNo) → Grows k (caller ctx) (carried_out k ctx request number).kernel
-carried_out_grows k ctx ExtTsk number id = omega arith
-carried_out_grows k ctx (DlyTsk ticks) number id = waiting_grows k (caller ctx) targets.Delay (timeouts.Ms ticks) number id
-carried_out_grows k ctx (SigSem s) number id = omega arith
-carried_out_grows k ctx (TwaiSem s tmo) number id = elim (cases_Bool (ltb 0 (count_of (get k.semaphores s.0)))) [
-  | inl t ↦ rw t (omega arith)
-  | inr t ↦ rw t (accepted_grows k (caller ctx) (targets.Semaphore s) tmo number id)
-]
-
-unless_refused_grows : (k : PlainKernel) (t : TaskId) (refusal : Option Er) (o : Outcome) → Grows k t o.kernel → Grows k t (unless_refused refusal k o).kernel
-unless_refused_grows k t None o h id = h id
-unless_refused_grows k t (Some code) o h id = omega arith
+row_grows : (k : PlainKernel) (ctx : Ctx) (request : KReq) (number : CallNo) → Grows k (caller ctx) (row k ctx request number).kernel
+row_grows k ctx request number = row_acts (λ o. Grows k (caller ctx) o.kernel) (record {
+  answers = λ code id. omega arith;
+  counts = λ semaphores id. omega arith;
+  waits = λ task target tmo inside. waiting_grows k (caller ctx) target tmo number;
+  exits = λ task id. omega arith;
+}) request
 
 call_grows : (k : PlainKernel) (ctx : Ctx) (request : KReq) (number : CallNo) → Grows k (caller ctx) (call k ctx request number).kernel
 unfolding call settled
 call_grows k ctx request number id =
     let o : Outcome = row k ctx request number in
-    omega (arith, settle_fewer (length o.kernel.waits) o.kernel id, unless_refused_grows k (caller ctx) (first_refusal (refusals k ctx request)) (carried_out k ctx request number) (carried_out_grows k ctx request number) id)
+    omega (arith, settle_fewer (length o.kernel.waits) o.kernel id, row_grows k ctx request number id)
 
 call_ends_listed : (k : PlainKernel) (ctx : Ctx) (request : KReq) (number : CallNo) → AreListed (call k ctx request number).ends (call k ctx request number).kernel.runnable
 unfolding call settled
 call_ends_listed k ctx request number = let o : Outcome = row k ctx request number in rw (row_ends k ctx request number) (settle_ends_listed (length o.kernel.waits) o.kernel)
 
-blocked_grows : (answer : NetAnswer) (k : PlainKernel) (t : TaskId) (request : NReq) (number : CallNo) → Grows k t (blocked_where answer k (contexts.Task t) request number)
+blocked_grows : (answer : NetAnswer) (k : PlainKernel) (t : TaskId) (request : Req) (number : CallNo) → Grows k t (blocked_where answer k (contexts.Task t) request number)
 blocked_grows net_answers.Pends k t request number id = waiting_grows k t targets.Outside (timeout_of request) number id
 blocked_grows (net_answers.Now code bytes) k t request number id = omega arith
 blocked_grows net_answers.Quiet k t request number id = omega arith
@@ -131,7 +115,7 @@ kernel_called_free n t request may none h free =
         → (id : ℕ) → times_waiting id (after_kernel (beginning n) o).kernel.waits ≤ times_waiting id o.kernel.waits
     same_fewer n o h = h
 
-network_called_free : (n : PlainNode) (t : TaskId) (request : NReq) → 1 ≤ times_listed t.0 n.kernel.runnable → is_some (get n.held t.0) ≡ false → SoundNode n → NodeFree n → NodeFree (network_called n (contexts.Task t) request).0
+network_called_free : (n : PlainNode) (t : TaskId) (request : Req) → 1 ≤ times_listed t.0 n.kernel.runnable → is_some (get n.held t.0) ≡ false → SoundNode n → NodeFree n → NodeFree (network_called n (contexts.Task t) request).0
 unfolding network_called net_rows.net_call net_settled
 network_called_free n t request listed none h free =
     let number : CallNo = record { 0 = n.calls + 1 } in
@@ -176,14 +160,20 @@ returned_free n task free id there = elim (cases_eq id task.0) [
   | inr other ↦ free id (sym (ap is_some (get_or-set_other n.held task.0 id None None other)) ∙ there)
 ]
 
+called_free : (n : PlainNode) (t : TaskId) (request : Req) (call : Option KReq)
+    → is_running n t ≡ true
+    → is_some (get n.held t.0) ≡ false
+    → SoundNode n
+    → NodeFree n
+    → NodeFree (called_as n (contexts.Task t) request call).0
+called_free n t request (Some call) runs none h free = kernel_called_free n t call (may_call n t runs) none h free
+called_free n t request None runs none h free =
+    let may = may_call n t runs in network_called_free n t request (running_listed n.kernel.tasks n.kernel.runnable t may.0 may.1) none h free
+
 step_free : (n : PlainNode) (event : NodeEvent) → SoundNode n → NodeFree n → is_admitted n event ≡ true → NodeFree (node_step n event).0
 unfolding node_step
-step_free n (Call (contexts.Task task) (Kernel request)) h free e =
-    let parts = and_parts (is_running n task) (not (holds_answer n task)) e in kernel_called_free n task request (may_call n task parts.0) (not-true (holds_answer n task) parts.1) h free
-step_free n (Call (contexts.Task task) (Network request)) h free e =
-    let parts = and_parts (is_running n task) (not (holds_answer n task)) e in
-    let may = may_call n task parts.0 in
-    network_called_free n task request (running_listed n.kernel.tasks n.kernel.runnable task may.0 may.1) (not-true (holds_answer n task) parts.1) h free
+step_free n (Call (contexts.Task task) request) h free e =
+    let parts = and_parts (is_running n task) (not (holds_answer n task)) e in called_free n task request (kernel_of request) parts.0 (not-true (holds_answer n task) parts.1) h free
 step_free n (Call contexts.Handler request) h free e = absurd cc
 step_free n (Return task) h free e = returned_free n task free
 step_free n Tick h free e = ticked_free n h free

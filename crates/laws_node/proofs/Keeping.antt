@@ -9,16 +9,12 @@ use Rattle.it_types.specs.declared.id.TaskId.{TaskId}
 use Rattle.it_types.specs.declared.id.CepId.{CepId}
 use Rattle.it_types.specs.declared.id.CallNo.{CallNo}
 use Rattle.it_types.specs.declared.er.Er.{Er}
-use Rattle.it_types.specs.declared.timeout.Tmo.{Tmo}
 use Rattle.it_types.specs.declared.context.Ctx.{Ctx}
-use Rattle.it_types.specs.declared.network_request.NReq.{NReq}
-use Rattle.it_types.specs.declared.network_request.NReq.TheVariants.{UdpCreCep, UdpSndDat, UdpRcvDat}
-use Rattle.it_types.specs.Callers.{caller, is_poll}
+use Rattle.it_types.specs.declared.request.Req.{Req}
+use Rattle.it_types.specs.Callers.{caller}
 use Rattle.spec_lists.specs.Tables.{get, change}
 use Rattle.spec_lists.specs.First.{take_first}
-use Rattle.spec_lists.specs.Refusal.{first_refusal}
 use Rattle.spec_lists.proofs.Firsts.{cases_of_first}
-use Rattle.spec_lists.proofs.Refusing.{none_holds}
 use Rattle.spec_lists.proofs.Changes.{get-change_other}
 use Rattle.spec_net.specs.declared.point.Received.{Received}
 use Rattle.spec_net.specs.declared.point.UdpPoint.{UdpPoint}
@@ -26,14 +22,14 @@ use Rattle.spec_net.specs.declared.pending.NetCall.{NetCall}
 use Rattle.spec_net.specs.declared.pending.PendingRequest.{PendingRequest}
 use Rattle.spec_net.specs.declared.pending.PendingRequest.TheVariants.{UdpReceive}
 use Rattle.spec_net.specs.PlainNet.{PlainNet, NetOutcome, queue_limit, opened_net}
-use Rattle.spec_net.specs.Ports.{has_port, is_taken, port_for}
+use Rattle.spec_net.specs.Ports.{has_port, is_taken}
 use Rattle.spec_net.specs.Packets.{Arrived, arrived_in}
 use Rattle.spec_net.specs.Receiving.{queue_of, rest_of, without_oldest}
 use Rattle.spec_net.specs.NetSettle.{is_ready, first_ready, taken, freed, settle, net_settled}
-use Rattle.spec_net.specs.UdpRows.{is_receive_at, refusals, accepted, received, carried_out, unless_refused, row, net_call}
+use Rattle.spec_net.specs.UdpRows.{is_receive_at, row, net_call}
 use Rattle.spec_net.specs.Arrival.{joined, given, delivered, after_arrival, quiet, arrive}
 use Rattle.spec_net.specs.NetEnds.{has_number, numbered, ended_at, ended}
-use Rattle.spec_net.proofs.FreePorts.{free_port_free}
+use Rattle.spec_node.proofs.NetActs.{row_acts}
 use Rattle.laws_kernel.specs.Runnable.{one_if}
 use Rattle.laws_kernel.proofs.Counting.{one_at_most}
 use Rattle.laws_node.specs.Agreement.{times}
@@ -196,23 +192,9 @@ waiting_kept net task cep len number h there none = record { ports = h.ports; qu
           )
     ]
 
-accepted_kept : (net : PlainNet) (task : TaskId) (cep : CepId) (len : ℕ) (tmo : Tmo) (number : CallNo)
-    → PointsAreKept net
-    → is_none (get net.udp cep.0) ≡ false
-    → list_any (is_receive_at cep) net.calls ≡ false
-    → PointsAreKept (accepted net task (UdpReceive cep len) tmo number).net
-accepted_kept net task cep len tmo number h there none = elim (cases_Bool (is_poll tmo)) [
-  | inl t ↦ rw t h
-  | inr t ↦ rw t (waiting_kept net task cep len number h there none)
-]
-
-received_kept : (net : PlainNet) (task : TaskId) (cep : CepId) (len : ℕ) (tmo : Tmo) (number : CallNo) (queue : List Received)
-    → PointsAreKept net
-    → is_none (get net.udp cep.0) ≡ false
-    → list_any (is_receive_at cep) net.calls ≡ false
-    → PointsAreKept (received net task cep len tmo number queue).net
-received_kept net task cep len tmo number [] h there none = accepted_kept net task cep len tmo number h there none
-received_kept net task cep len tmo number (d ∷ ds) h there none =
+-- a receive that is met
+oldest_kept : (net : PlainNet) (cep : CepId) → PointsAreKept net → PointsAreKept (record net { udp = change net.udp cep.0 without_oldest })
+oldest_kept net cep h =
     let after : PlainNet = record net { udp = change net.udp cep.0 without_oldest } in alike_kept net after h (alike_change net.udp cep.0 without_oldest oldest_alike) (λ at. omega arith)
 
 -- ---- a new end point
@@ -230,12 +212,6 @@ made_at [] zero new = inr refl
 made_at [] (suc i) new = inr refl
 made_at (o ∷ os) zero new = inl refl
 made_at (o ∷ os) (suc i) new = made_at os i new
-
-free_for : (udp : List (Option UdpPoint)) (port : ℕ) → is_taken udp port ≡ false → is_taken udp (port_for udp port) ≡ false
-free_for udp port free = elim (cases_Bool (port == 0)) [
-  | inl t ↦ rw t (free_port_free udp)
-  | inr t ↦ rw t free
-]
 
 nothing_under : (o : Option UdpPoint) → is_some o ≡ false → one_if (is_some o) ≡ 0
 nothing_under None e = refl
@@ -281,26 +257,18 @@ made_kept net cep p h none free empty = record { ports = ports; queues = queues;
 
 -- ---- calls
 
-carried_out_kept : (net : PlainNet) (ctx : Ctx) (request : NReq) (number : CallNo)
-    → PointsAreKept net
-    → first_refusal (refusals net ctx request) ≡ None
-    → PointsAreKept (carried_out net ctx request number).net
-carried_out_kept net ctx (UdpCreCep cep port cbr) number h allowed =
-    let tests = none_holds (refusals net ctx (UdpCreCep cep port cbr)) allowed in
-    made_kept net cep (record { port = port_for net.udp port; routine = cbr; queue = [] }) h tests.1.1.0 (free_for net.udp port tests.1.1.1.0) refl
-carried_out_kept net ctx (UdpSndDat cep dest load tmo) number h allowed = h
-carried_out_kept net ctx (UdpRcvDat cep len tmo) number h allowed =
-    let tests = none_holds (refusals net ctx (UdpRcvDat cep len tmo)) allowed in
-    received_kept net (caller ctx) cep len tmo number (queue_of (get net.udp cep.0)) h tests.1.1.0 tests.1.1.1.1.1.0
+row_kept : (net : PlainNet) (ctx : Ctx) (request : Req) (number : CallNo) → PointsAreKept net → PointsAreKept (row net ctx request number).net
+row_kept net ctx request number h = row_acts (λ o. PointsAreKept o.net) (record {
+  answers = λ code. h;
+  makes = λ cep point none free empty. made_kept net cep point h none free empty;
+  sends = λ code packet. h;
+  takes = λ cep code bytes. oldest_kept net cep h;
+  waits = λ cep len there none. waiting_kept net (caller ctx) cep len number h there none;
+}) request
 
-unless_refused_kept : (net : PlainNet) (refusal : Option Er) (o : NetOutcome) → PointsAreKept net → (refusal ≡ None → PointsAreKept o.net) → PointsAreKept (unless_refused refusal net o).net
-unless_refused_kept net None o h carried = carried refl
-unless_refused_kept net (Some code) o h carried = h
-
-pub net_call_kept : (net : PlainNet) (ctx : Ctx) (request : NReq) (number : CallNo) → PointsAreKept net → PointsAreKept (net_call net ctx request number).net
+pub net_call_kept : (net : PlainNet) (ctx : Ctx) (request : Req) (number : CallNo) → PointsAreKept net → PointsAreKept (net_call net ctx request number).net
 unfolding net_call
-net_call_kept net ctx request number h =
-    net_settled_kept (row net ctx request number) (unless_refused_kept net (first_refusal (refusals net ctx request)) (carried_out net ctx request number) h (carried_out_kept net ctx request number h))
+net_call_kept net ctx request number h = net_settled_kept (row net ctx request number) (row_kept net ctx request number h)
 
 -- ---- the opening
 

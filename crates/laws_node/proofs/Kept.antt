@@ -1,19 +1,22 @@
 -- Each event of a node keeps its end points as they are to be.
-use Rattle.std.proofs.Common.{ℕ, zero, suc, List, [], ◌∷◌, length, inl, inr}
+use Rattle.std.proofs.Common.{ℕ, zero, suc, List, [], ◌∷◌, length, Option, Some, None, inl, inr}
 use Rattle.std.proofs.lemmas.Bool.{cases_Bool}
+use Rattle.it_types.specs.declared.context.Ctx.{Ctx}
 use Rattle.it_types.specs.declared.conf.KConf.{KConf}
+use Rattle.it_types.specs.declared.kernel_request.KReq.{KReq}
+use Rattle.it_types.specs.declared.request.Req.{Req}
+use Rattle.it_types.specs.Requests.{kernel_of}
 use Rattle.spec_lists.proofs.Firsts.{cases_of_first}
 use Rattle.spec_kernel.specs.declared.outcome.KEnd.{KEnd}
 use Rattle.spec_kernel.specs.Settle.{Outcome}
 use Rattle.spec_kernel.specs.Deadlines.{next_past, ended_by_time}
 use Rattle.spec_kernel.specs.Rows as kernel_rows
 use Rattle.spec_kernel.proofs.Timing.{next_past_none, due_none, due_some}
-use Rattle.spec_node.specs.declared.event.NodeRequest.TheVariants.{Kernel, Network}
 use Rattle.spec_node.specs.declared.event.NodeEvent.{NodeEvent}
 use Rattle.spec_node.specs.declared.event.NodeEvent.TheVariants.{Call, Return, Tick, Arrive}
 use Rattle.spec_node.specs.PlainNode.{PlainNode, opened_node}
 use Rattle.spec_node.specs.Progress.{Progress, after_end, after_ends, after_kernel, time_out, timed_out}
-use Rattle.spec_node.specs.NodeStep.{beginning, kernel_called, network_called, arrived, ticked, returned, node_step}
+use Rattle.spec_node.specs.NodeStep.{beginning, kernel_called, network_called, called_as, arrived, ticked, returned, node_step}
 use Rattle.laws_node.specs.EndPoints.{PointsAreKept, KeptAlong}
 use Rattle.laws_node.proofs.Keeping.{net_call_kept, arrive_kept, ended_kept, opened_kept}
 
@@ -43,10 +46,21 @@ timed_out_kept : (p : Progress) → PointsAreKept p.net → PointsAreKept (timed
 unfolding timed_out
 timed_out_kept p h = time_out_kept (length p.kernel.waits) p h
 
+pub kernel_called_kept : (n : PlainNode) (ctx : Ctx) (request : KReq) → PointsAreKept n.net → PointsAreKept (kernel_called n ctx request).0.net
+unfolding kernel_called
+kernel_called_kept n ctx request h = after_kernel_kept (beginning n) (kernel_rows.call n.kernel ctx request _) h
+
+pub network_called_kept : (n : PlainNode) (ctx : Ctx) (request : Req) → PointsAreKept n.net → PointsAreKept (network_called n ctx request).0.net
+unfolding network_called
+network_called_kept n ctx request h = net_call_kept n.net ctx request _ h
+
+called_kept : (n : PlainNode) (ctx : Ctx) (request : Req) (call : Option KReq) → PointsAreKept n.net → PointsAreKept (called_as n ctx request call).0.net
+called_kept n ctx request (Some call) h = kernel_called_kept n ctx call h
+called_kept n ctx request None h = network_called_kept n ctx request h
+
 pub step_kept : (n : PlainNode) (event : NodeEvent) → PointsAreKept n.net → PointsAreKept (node_step n event).0.net
-unfolding node_step kernel_called network_called returned ticked arrived
-step_kept n (Call ctx (Kernel request)) h = after_kernel_kept (beginning n) (kernel_rows.call n.kernel ctx request _) h
-step_kept n (Call ctx (Network request)) h = net_call_kept n.net ctx request _ h
+unfolding node_step returned ticked arrived
+step_kept n (Call ctx request) h = called_kept n ctx request (kernel_of request) h
 step_kept n (Return task) h = h
 step_kept n Tick h = timed_out_kept (after_kernel (beginning n) (kernel_rows.tick n.kernel)) (after_kernel_kept (beginning n) (kernel_rows.tick n.kernel) h)
 step_kept n (Arrive bytes) h = arrive_kept n.net bytes h

@@ -1,17 +1,11 @@
 -- What an event of the kernel does to the tasks that wait outside: settling ends no such wait, and tells of none.
-use Rattle.std.proofs.Common.{◌≡◌, ℕ, zero, suc, ◌≤◌, true, false, List, [], ◌∷◌, length, Option, Some, None, refl, sym, ◌∙◌, ap, inl, inr, ltb, arith}
-use Rattle.std.proofs.lemmas.Bool.{cases_Bool}
+use Rattle.std.proofs.Common.{◌≡◌, ℕ, zero, suc, ◌≤◌, true, false, List, [], ◌∷◌, length, Option, refl, sym, ◌∙◌, ap, inl, inr, arith}
 use Rattle.it_types.specs.declared.id.TaskId.{TaskId}
 use Rattle.it_types.specs.declared.id.CallNo.{CallNo}
-use Rattle.it_types.specs.declared.er.Er.{Er}
 use Rattle.it_types.specs.declared.timeout.Tmo.{Tmo}
-use Rattle.it_types.specs.declared.timeout.Tmo.TheVariants as timeouts
 use Rattle.it_types.specs.declared.context.Ctx.{Ctx}
 use Rattle.it_types.specs.declared.kernel_request.KReq.{KReq}
-use Rattle.it_types.specs.declared.kernel_request.KReq.TheVariants.{ExtTsk, DlyTsk, SigSem, TwaiSem}
-use Rattle.it_types.specs.Callers.{caller, is_poll}
-use Rattle.spec_lists.specs.Tables.{get}
-use Rattle.spec_lists.specs.Refusal.{first_refusal}
+use Rattle.it_types.specs.Callers.{caller}
 use Rattle.spec_lists.proofs.Firsts.{cases_of_first}
 use Rattle.spec_kernel.specs.declared.semaphore.Semaphore.{Semaphore}
 use Rattle.spec_kernel.specs.declared.wait.Wait.{Wait}
@@ -19,10 +13,10 @@ use Rattle.spec_kernel.specs.declared.wait.WaitFor.{WaitFor}
 use Rattle.spec_kernel.specs.declared.wait.WaitFor.TheVariants as targets
 use Rattle.spec_kernel.specs.declared.outcome.KEnd.{KEnd}
 use Rattle.spec_kernel.specs.PlainKernel.{PlainKernel}
-use Rattle.spec_kernel.specs.Semaphores.{count_of}
 use Rattle.spec_kernel.specs.Settle.{Outcome, is_met, is_ready, first_ready, freed, settle, settled}
 use Rattle.spec_kernel.specs.Deadlines.{is_outside}
-use Rattle.spec_kernel.specs.Rows.{refusals, accepted, waiting, carried_out, unless_refused, row, call}
+use Rattle.spec_kernel.specs.Rows.{waiting, row, call}
+use Rattle.spec_kernel.proofs.RowActs.{row_acts}
 use Rattle.laws_kernel.specs.Runnable.{one_if, times_listed}
 use Rattle.laws_kernel.specs.Ranks.{Ranks, task_draws}
 use Rattle.laws_kernel.proofs.Standing.{StandsFor, freed_stands}
@@ -106,27 +100,13 @@ waiting_inside k task target tmo number inside = record {
   ends = refl;
 }
 
-accepted_inside : (k : PlainKernel) (task : TaskId) (target : WaitFor) (tmo : Tmo) (number : CallNo) → is_outside target ≡ false → RowInside k (accepted k task target tmo number)
-accepted_inside k task target tmo number inside = elim (cases_Bool (is_poll tmo)) [
-  | inl t ↦ rw t (record { outside = λ n id. refl; ends = refl })
-  | inr t ↦ rw t (waiting_inside k task target tmo number inside)
-]
-
-carried_out_inside : (k : PlainKernel) (ctx : Ctx) (request : KReq) (number : CallNo) → RowInside k (carried_out k ctx request number)
-carried_out_inside k ctx ExtTsk number = record { outside = λ n id. refl; ends = refl }
-carried_out_inside k ctx (DlyTsk ticks) number = waiting_inside k (caller ctx) targets.Delay (timeouts.Ms ticks) number refl
-carried_out_inside k ctx (SigSem s) number = record { outside = λ n id. refl; ends = refl }
-carried_out_inside k ctx (TwaiSem s tmo) number = elim (cases_Bool (ltb 0 (count_of (get k.semaphores s.0)))) [
-  | inl t ↦ rw t (record { outside = λ n id. refl; ends = refl })
-  | inr t ↦ rw t (accepted_inside k (caller ctx) (targets.Semaphore s) tmo number refl)
-]
-
-unless_refused_inside : (k : PlainKernel) (refusal : Option Er) (o : Outcome) → RowInside k o → RowInside k (unless_refused refusal k o)
-unless_refused_inside k None o h = h
-unless_refused_inside k (Some code) o h = record { outside = λ n id. refl; ends = refl }
-
 row_inside : (k : PlainKernel) (ctx : Ctx) (request : KReq) (number : CallNo) → RowInside k (row k ctx request number)
-row_inside k ctx request number = unless_refused_inside k (first_refusal (refusals k ctx request)) (carried_out k ctx request number) (carried_out_inside k ctx request number)
+row_inside k ctx request number = row_acts (RowInside k) (record {
+  answers = λ code. record { outside = λ n id. refl; ends = refl };
+  counts = λ semaphores. record { outside = λ n id. refl; ends = refl };
+  waits = λ task target tmo inside. waiting_inside k (caller ctx) target tmo number inside;
+  exits = λ task. record { outside = λ n id. refl; ends = refl };
+}) request
 
 pub row_ends : (k : PlainKernel) (ctx : Ctx) (request : KReq) (number : CallNo) → (row k ctx request number).ends ≡ []
 row_ends k ctx request number = (row_inside k ctx request number).ends

@@ -1,20 +1,16 @@
 -- What an event of the network part does to its calls: those that end leave the list, and no other does.
-use Rattle.std.proofs.Common.{◌≡◌, ℕ, zero, suc, ◌+◌, ◌≤◌, Bool, true, ◌&&◌, List, [], ◌∷◌, ◌++◌, length, Option, Some, None, refl, ◌∙◌, ap, subst, inl, inr, arith}
+use Rattle.std.proofs.Common.{◌≡◌, ℕ, zero, suc, ◌+◌, ◌≤◌, Bool, true, ◌&&◌, List, [], ◌∷◌, ◌++◌, Option, Some, refl, ◌∙◌, ap, subst, inl, inr, arith}
 use mathlib.Core.Logic.{◌⊎◌}
 use Rattle.std.specs.Prelude.{◌==◌}
 use Rattle.std.proofs.lemmas.Bool.{cases_Bool, eqb-true, and_parts}
 use Rattle.it_types.specs.declared.id.CallNo.{CallNo}
 use Rattle.it_types.specs.declared.er.Er.{Er}
-use Rattle.it_types.specs.declared.er.TheConstants.{E_OK, E_TMOUT}
-use Rattle.it_types.specs.declared.id.CepId.{CepId}
-use Rattle.it_types.specs.declared.timeout.Tmo.{Tmo}
+use Rattle.it_types.specs.declared.er.TheConstants.{E_OK}
 use Rattle.it_types.specs.declared.context.Ctx.{Ctx}
-use Rattle.it_types.specs.declared.network_request.NReq.{NReq}
-use Rattle.it_types.specs.declared.network_request.NReq.TheVariants.{UdpCreCep, UdpSndDat, UdpRcvDat}
-use Rattle.it_types.specs.Callers.{caller, is_poll}
+use Rattle.it_types.specs.declared.request.Req.{Req}
+use Rattle.it_types.specs.Callers.{caller}
 use Rattle.spec_lists.specs.Tables.{get}
 use Rattle.spec_lists.specs.First.{put_back, take_first}
-use Rattle.spec_lists.specs.Refusal.{first_refusal}
 use Rattle.spec_lists.proofs.Firsts.{cases_of_first, at_first, past_first}
 use Rattle.spec_net.specs.declared.point.Received.{Received}
 use Rattle.spec_net.specs.declared.point.UdpPoint.{UdpPoint}
@@ -24,10 +20,11 @@ use Rattle.spec_net.specs.declared.pending.PendingRequest.TheVariants.{UdpReceiv
 use Rattle.spec_net.specs.declared.outcome.NetAnswer.TheVariants.{Now, Pends}
 use Rattle.spec_net.specs.declared.outcome.NetEnd.{NetEnd}
 use Rattle.spec_net.specs.PlainNet.{PlainNet, NetOutcome}
-use Rattle.spec_net.specs.Receiving.{queue_of, count_code, receive_code, receive_bytes}
+use Rattle.spec_net.specs.Receiving.{queue_of}
 use Rattle.spec_net.specs.NetSettle.{is_ready, first_ready, received_end, end_for, freed, settle}
-use Rattle.spec_net.specs.UdpRows.{refusals, accepted, received, carried_out, unless_refused, row}
+use Rattle.spec_net.specs.UdpRows.{row}
 use Rattle.spec_net.specs.NetEnds.{has_number}
+use Rattle.spec_node.proofs.NetActs.{row_acts}
 use Rattle.laws_kernel.specs.Runnable.{one_if}
 use Rattle.laws_kernel.proofs.Rising.{AllAbove, AllBelow, Rises, rises_found, below_found}
 use Rattle.laws_node.specs.Agreement.{times, is_net_call}
@@ -106,24 +103,11 @@ abbrev pub Does : PlainNet → Ctx → CallNo → NetOutcome → Type 0
 Does net ctx number o =
     (o.ends ≡ []) × (((o.answer ≡ Pends) × ((w : PendingRequest) × (o.net.calls ≡ net.calls ++ record { call = number; who = caller ctx; request = w } ∷ []))) ⊎ ((code : Er) × (bytes : List ℕ) × (o.answer ≡ Now code bytes) × (o.net.calls ≡ net.calls)))
 
-accepted_does : (net : PlainNet) (ctx : Ctx) (request : PendingRequest) (tmo : Tmo) (number : CallNo) → Does net ctx number (accepted net (caller ctx) request tmo number)
-accepted_does net ctx request tmo number = elim (cases_Bool (is_poll tmo)) [
-  | inl t ↦ rw t (refl, inr (E_TMOUT, [], refl, refl))
-  | inr t ↦ rw t (refl, inl (refl, (request, refl)))
-]
-
-received_does : (net : PlainNet) (ctx : Ctx) (cep : CepId) (len : ℕ) (tmo : Tmo) (number : CallNo) (queue : List Received) → Does net ctx number (received net (caller ctx) cep len tmo number queue)
-received_does net ctx cep len tmo number [] = accepted_does net ctx (UdpReceive cep len) tmo number
-received_does net ctx cep len tmo number (d ∷ ds) = (refl, inr (receive_code len d, receive_bytes len d, refl, refl))
-
-carried_out_does : (net : PlainNet) (ctx : Ctx) (request : NReq) (number : CallNo) → Does net ctx number (carried_out net ctx request number)
-carried_out_does net ctx (UdpCreCep cep port cbr) number = (refl, inr (E_OK, [], refl, refl))
-carried_out_does net ctx (UdpSndDat cep dest load tmo) number = (refl, inr (count_code (length load), [], refl, refl))
-carried_out_does net ctx (UdpRcvDat cep len tmo) number = received_does net ctx cep len tmo number (queue_of (get net.udp cep.0))
-
-unless_refused_does : (net : PlainNet) (ctx : Ctx) (number : CallNo) (refusal : Option Er) (o : NetOutcome) → Does net ctx number o → Does net ctx number (unless_refused refusal net o)
-unless_refused_does net ctx number None o h = h
-unless_refused_does net ctx number (Some code) o h = (refl, inr (code, [], refl, refl))
-
-pub row_does : (net : PlainNet) (ctx : Ctx) (request : NReq) (number : CallNo) → Does net ctx number (row net ctx request number)
-row_does net ctx request number = unless_refused_does net ctx number (first_refusal (refusals net ctx request)) (carried_out net ctx request number) (carried_out_does net ctx request number)
+pub row_does : (net : PlainNet) (ctx : Ctx) (request : Req) (number : CallNo) → Does net ctx number (row net ctx request number)
+row_does net ctx request number = row_acts (Does net ctx number) (record {
+  answers = λ code. (refl, inr (code, [], refl, refl));
+  makes = λ cep point none free empty. (refl, inr (E_OK, [], refl, refl));
+  sends = λ code packet. (refl, inr (code, [], refl, refl));
+  takes = λ cep code bytes. (refl, inr (code, bytes, refl, refl));
+  waits = λ cep len there none. (refl, inl (refl, (UdpReceive cep len, refl)));
+}) request
