@@ -7,7 +7,6 @@ use Rattle.it_types.specs.declared.event.Event.{Event}
 use Rattle.it_types.specs.declared.event.Event.TheVariants as events
 use Rattle.spec_node.specs.declared.event.NodeEvent.{NodeEvent}
 use Rattle.spec_node.specs.declared.event.NodeEvent.TheVariants.{Call, Return, Tick, Arrive}
-use Rattle.spec_node.specs.Parts.{part_of}
 use Rattle.spec_node.specs.PlainNode.{PlainNode}
 use Rattle.spec_node.specs.NodeStep.{node_step}
 use Rattle.spec_node.specs.Admitted as node
@@ -56,7 +55,7 @@ delivery_moves admitted w number (Some packet) = at_moves admitted w.nodes (peer
 -- an event of the world is at most one event of one node
 pub step_moves : (w : PlainWorld) (event : Event) → NodesMove (is_admitted w event) w.nodes (step w event).0.nodes
 unfolding step
-step_moves w (events.Call id ctx request) = at_moves _ w.nodes id (Call ctx (part_of request)) (admitted_part w.nodes id (Call ctx (part_of request)))
+step_moves w (events.Call id ctx request) = at_moves _ w.nodes id (Call ctx request) (admitted_part w.nodes id (Call ctx request))
 step_moves w (events.Return id task) = at_moves _ w.nodes id (Return task) (admitted_part w.nodes id (Return task))
 step_moves w (events.Tick id) = at_moves _ w.nodes id Tick (admitted_part w.nodes id Tick)
 step_moves w (events.Deliver number) = delivery_moves _ w number (slice_get w.packets number.0)

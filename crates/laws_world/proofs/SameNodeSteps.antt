@@ -1,16 +1,17 @@
 -- An event of a node comes to the same by ranks as by places.
-use Rattle.std.proofs.Common.{◌≡◌, ℕ, ◌+◌, true, not, ◌&&◌, List, refl, sym, ap, subst, arith}
+use Rattle.std.proofs.Common.{◌≡◌, ℕ, ◌+◌, true, not, ◌&&◌, List, Option, Some, None, refl, sym, ap, subst, arith}
 use Rattle.std.specs.Prelude.{◌==◌}
 use Rattle.it_types.specs.declared.id.TaskId.{TaskId}
 use Rattle.it_types.specs.declared.id.CallNo.{CallNo}
 use Rattle.it_types.specs.declared.context.Ctx.TheVariants as contexts
 use Rattle.it_types.specs.declared.conf.KConf.{KConf}
 use Rattle.it_types.specs.declared.kernel_request.KReq.{KReq}
-use Rattle.it_types.specs.declared.network_request.NReq.{NReq}
+use Rattle.it_types.specs.declared.request.Req.{Req}
 use Rattle.it_types.specs.declared.answer.Ans.{Ans}
 use Rattle.it_types.specs.declared.answer.Ans.TheVariants as answers
 use Rattle.it_types.specs.declared.entry.Out.{Out}
 use Rattle.it_types.specs.Callers.{nobody}
+use Rattle.it_types.specs.Requests.{kernel_of}
 use Rattle.spec_kernel.specs.PlainKernel.{PlainKernel}
 use Rattle.spec_kernel.specs.Settle.{Outcome}
 use Rattle.spec_kernel.specs.Rows.{call, tick}
@@ -18,12 +19,11 @@ use Rattle.spec_kernel.specs.Opening.{IsDeclarable}
 use Rattle.spec_net.specs.PlainNet.{NetOutcome}
 use Rattle.spec_net.specs.UdpRows.{net_call}
 use Rattle.spec_net.specs.Arrival.{arrive}
-use Rattle.spec_node.specs.declared.event.NodeRequest.TheVariants.{Kernel, Network}
 use Rattle.spec_node.specs.declared.event.NodeEvent.{NodeEvent}
 use Rattle.spec_node.specs.declared.event.NodeEvent.TheVariants.{Call, Return, Tick, Arrive}
 use Rattle.spec_node.specs.PlainNode.{PlainNode, running_task, holds_answer, opened_node}
 use Rattle.spec_node.specs.Progress.{Progress, after_net, after_kernel, timed_out}
-use Rattle.spec_node.specs.NodeStep.{beginning, kernel_answer, net_answer, node_after, done, kernel_called, network_called, arrived, ticked, returned, node_step}
+use Rattle.spec_node.specs.NodeStep.{beginning, kernel_answer, net_answer, node_after, done, kernel_called, network_called, called_as, arrived, ticked, returned, node_step}
 use Rattle.spec_node.specs.Admitted.{is_running, is_admitted}
 use Rattle.laws_kernel.specs.Ranks.{Ranked, RankedKernel, call_by_rank, tick_by_rank}
 use Rattle.laws_kernel.proofs.Standing.{StandsFor}
@@ -34,7 +34,7 @@ use Rattle.std.proofs.lemmas.Bool.{and_parts}
 use Rattle.laws_node.proofs.Agreeing.{may_call}
 use Rattle.laws_node.proofs.Along.{Holds, step_holds, opening_holds}
 use Rattle.laws_world.specs.RankedProgress.{RankedProgress, after_net_by_rank, after_kernel_by_rank, timed_out_by_rank}
-use Rattle.laws_world.specs.RankedNode.{RankedNode, runs_by_rank, beginning_by_rank, done_by_rank, going_on_with, kernel_called_by_rank, blocked_where_by_rank, network_called_by_rank, arrived_by_rank, ticked_by_rank, returned_by_rank, node_step_by_rank, is_running_by_rank, node_admits_by_rank, opened_by_rank}
+use Rattle.laws_world.specs.RankedNode.{RankedNode, runs_by_rank, beginning_by_rank, done_by_rank, going_on_with, kernel_called_by_rank, blocked_where_by_rank, network_called_by_rank, called_as_by_rank, arrived_by_rank, ticked_by_rank, returned_by_rank, node_step_by_rank, is_running_by_rank, node_admits_by_rank, opened_by_rank}
 use Rattle.laws_world.proofs.SameProgress.{SameProgress, blocked_where_same, after_net_same, after_kernel_same, timed_out_same}
 
 -- the ranks of a node stand for its places
@@ -73,7 +73,7 @@ kernel_called_same n t request may h =
     (done_same n (kernel_answer (n.node.calls + 1) x.outcome.answer) x.outcome.gone x.outcome.begun (after_kernel_by_rank (beginning_by_rank n) x) (after_kernel (beginning n.node) x.outcome) h.stands
     (after_kernel_same (beginning_by_rank n) x x.outcome (record { outcome = refl; stands = same.stands })))
 
-network_called_same : (n : RankedNode) (t : TaskId) (request : NReq) → MayCall n.node.kernel (contexts.Task t) → NodeStands n → SameStep (network_called_by_rank n (contexts.Task t) request) (network_called n.node (contexts.Task t) request)
+network_called_same : (n : RankedNode) (t : TaskId) (request : Req) → MayCall n.node.kernel (contexts.Task t) → NodeStands n → SameStep (network_called_by_rank n (contexts.Task t) request) (network_called n.node (contexts.Task t) request)
 unfolding network_called_by_rank network_called
 network_called_same n t request may h =
     let number : CallNo = record { 0 = n.node.calls + 1 } in
@@ -83,6 +83,13 @@ network_called_same n t request may h =
     subst (λ (l : PlainKernel). SameStep (done_by_rank n (net_answer (n.node.calls + 1) o.answer) nobody nobody (after_net_by_rank (going_on_with n.node k) o)) (done n.node (net_answer (n.node.calls + 1) o.answer) nobody nobody (after_net (record (beginning n.node) { kernel = l }) o)))
     blocks.kernel
     (done_same n (net_answer (n.node.calls + 1) o.answer) nobody nobody (after_net_by_rank (going_on_with n.node k) o) (after_net (going_on_with n.node k).node o) h.stands (after_net_same (going_on_with n.node k) o blocks.stands))
+
+called_same : (n : RankedNode) (t : TaskId) (request : Req) (call : Option KReq)
+    → MayCall n.node.kernel (contexts.Task t)
+    → NodeStands n
+    → SameStep (called_as_by_rank n (contexts.Task t) request call) (called_as n.node (contexts.Task t) request call)
+called_same n t request (Some call) may h = kernel_called_same n t call may h
+called_same n t request None may h = network_called_same n t request may h
 
 arrived_same : (n : RankedNode) (bytes : List ℕ) → NodeStands n → SameStep (arrived_by_rank n bytes) (arrived n.node bytes)
 unfolding arrived_by_rank arrived
@@ -106,8 +113,8 @@ returned_same n task h = record { node = refl; out = refl; stands = h.stands }
 
 pub node_step_same : (n : RankedNode) (event : NodeEvent) → NodeStands n → is_admitted n.node event ≡ true → SameStep (node_step_by_rank n event) (node_step n.node event)
 unfolding node_step_by_rank node_step
-node_step_same n (Call (contexts.Task task) (Kernel request)) h e = kernel_called_same n task request (may_call n.node task (and_parts (is_running n.node task) (not (holds_answer n.node task)) e).0) h
-node_step_same n (Call (contexts.Task task) (Network request)) h e = network_called_same n task request (may_call n.node task (and_parts (is_running n.node task) (not (holds_answer n.node task)) e).0) h
+node_step_same n (Call (contexts.Task task) request) h e =
+    called_same n task request (kernel_of request) (may_call n.node task (and_parts (is_running n.node task) (not (holds_answer n.node task)) e).0) h
 node_step_same n (Call contexts.Handler request) h e = absurd cc
 node_step_same n (Return task) h e = returned_same n task h
 node_step_same n Tick h e = ticked_same n h

@@ -4,7 +4,8 @@ use Rattle.std.proofs.lemmas.Bool.{cases_Bool}
 use Rattle.it_types.specs.declared.id.TaskId.{TaskId}
 use Rattle.it_types.specs.declared.id.CallNo.{CallNo}
 use Rattle.it_types.specs.declared.context.Ctx.TheVariants as contexts
-use Rattle.it_types.specs.declared.network_request.NReq.{NReq}
+use Rattle.it_types.specs.declared.request.Req.{Req}
+use Rattle.it_types.specs.Requests.{timeout_of}
 use Rattle.spec_kernel.specs.declared.outcome.KEnd.{KEnd}
 use Rattle.spec_kernel.specs.PlainKernel.{PlainKernel}
 use Rattle.spec_kernel.specs.Settle.{Outcome}
@@ -12,7 +13,6 @@ use Rattle.spec_net.specs.declared.outcome.NetAnswer.{NetAnswer}
 use Rattle.spec_net.specs.declared.outcome.NetAnswer.TheVariants as net_answers
 use Rattle.spec_net.specs.declared.outcome.NetEnd.{NetEnd}
 use Rattle.spec_net.specs.PlainNet.{NetOutcome}
-use Rattle.spec_net.specs.UdpRows.{timeout_of}
 use Rattle.spec_net.specs.NetEnds.{ended}
 use Rattle.spec_node.specs.Progress.{Progress, woken_by, after_net, after_end, after_ends, after_kernel, time_turn, time_out, timed_out}
 use Rattle.spec_node.specs.NodeStep.{blocked_where}
@@ -37,7 +37,7 @@ woken_same k r (e ∷ es) h =
     let next : RankedKernel = unblocked_by_rank k r e.who in
     subst (λ (l : PlainKernel). SameKernel (woken_by_rank next.kernel next.ranks es) (woken_by l es)) one.kernel (woken_same next.kernel next.ranks es one.stands)
 
-pub blocked_where_same : (answer : NetAnswer) (k : PlainKernel) (r : Ranks) (t : TaskId) (request : NReq) (number : CallNo)
+pub blocked_where_same : (answer : NetAnswer) (k : PlainKernel) (r : Ranks) (t : TaskId) (request : Req) (number : CallNo)
     → StandsFor k r
     → 1 ≤ times_listed t.0 k.runnable
     → k.last_call < number.0

@@ -11,7 +11,6 @@ use Rattle.it_types.specs.declared.node_conf.Conf.{Conf}
 use Rattle.it_types.specs.Configuration.{kernel_conf, first_conf, second_conf}
 use Rattle.spec_node.specs.declared.event.NodeEvent.{NodeEvent}
 use Rattle.spec_node.specs.declared.event.NodeEvent.TheVariants.{Call, Return, Tick, Arrive}
-use Rattle.spec_node.specs.Parts.{part_of}
 use Rattle.spec_node.specs.PlainNode.{PlainNode}
 use Rattle.spec_node.specs.NodeStep.{node_step}
 use Rattle.spec_node.specs.Admitted as node
@@ -108,7 +107,7 @@ delivery_same w number (Some packet) h = step_at_same w (peer_of packet.sender) 
 
 step_same : (w : RankedWorld) (event : Event) → WorldStands w → is_admitted (plain w) event ≡ true → SameWorldStep (step_by_rank w event) (step (plain w) event)
 unfolding step_by_rank step
-step_same w (events.Call id ctx request) h e = step_at_same w id (Call ctx (part_of request)) (events.Call id ctx request) h (admitted_part (plain w).nodes id (Call ctx (part_of request)) e)
+step_same w (events.Call id ctx request) h e = step_at_same w id (Call ctx request) (events.Call id ctx request) h (admitted_part (plain w).nodes id (Call ctx request) e)
 step_same w (events.Return id task) h e = step_at_same w id (Return task) (events.Return id task) h (admitted_part (plain w).nodes id (Return task) e)
 step_same w (events.Tick id) h e = step_at_same w id Tick (events.Tick id) h refl
 step_same w (events.Deliver number) h e = delivery_same w number (slice_get w.packets number.0) h
@@ -121,7 +120,7 @@ admitted_at_same w id event h =
     ap (λ (b : Bool). nat_le id.0 1 && b) (node_admits_same (ranked_at w id) event (at_stands w id h) ∙ ap (λ m. node.is_admitted m event) (at_same w id))
 
 admitted_same : (w : RankedWorld) (event : Event) → WorldStands w → is_admitted_by_rank w event ≡ is_admitted (plain w) event
-admitted_same w (events.Call id ctx request) h = admitted_at_same w id (Call ctx (part_of request)) h
+admitted_same w (events.Call id ctx request) h = admitted_at_same w id (Call ctx request) h
 admitted_same w (events.Return id task) h = admitted_at_same w id (Return task) h
 admitted_same w (events.Tick id) h = admitted_at_same w id Tick h
 admitted_same w _ h = refl

@@ -9,7 +9,6 @@ use Rattle.it_types.specs.declared.node_conf.Conf.{Conf}
 use Rattle.it_types.specs.Configuration.{first_conf, second_conf}
 use Rattle.spec_node.specs.declared.event.NodeEvent.{NodeEvent}
 use Rattle.spec_node.specs.declared.event.NodeEvent.TheVariants.{Call, Return, Tick, Arrive}
-use Rattle.spec_node.specs.Parts.{part_of}
 use Rattle.spec_node.specs.PlainNode.{running_task}
 use Rattle.spec_world.specs.PlainWorld.{Packet, PlainWorld, peer_of, entry_of, plain_entry, packet_from, opened_of}
 use Rattle.spec_world.specs.Admitted.{is_sent}
@@ -43,11 +42,13 @@ delivery_by_rank w number None = (w, plain_entry (events.Deliver number))
 delivery_by_rank w number (Some packet) = step_at_by_rank w (peer_of packet.sender) (Arrive packet.bytes) (events.Deliver number)
 
 unfoldable pub step_by_rank : RankedWorld → Event → RankedWorld × Entry
-step_by_rank w (events.Call id ctx request) = step_at_by_rank w id (Call ctx (part_of request)) (events.Call id ctx request)
+step_by_rank w (events.Call id ctx request) = step_at_by_rank w id (Call ctx request) (events.Call id ctx request)
 step_by_rank w (events.Return id task) = step_at_by_rank w id (Return task) (events.Return id task)
 step_by_rank w (events.Tick id) = step_at_by_rank w id Tick (events.Tick id)
 step_by_rank w (events.Deliver number) = delivery_by_rank w number (slice_get w.packets number.0)
-step_by_rank w event = (w, plain_entry event)
+step_by_rank w (events.Begin id) = (w, plain_entry (events.Begin id))
+step_by_rank w (events.Finish id) = (w, plain_entry (events.Finish id))
+step_by_rank w events.Stop = (w, plain_entry events.Stop)
 
 -- ---- which events are admitted
 
@@ -55,12 +56,13 @@ abbrev pub is_admitted_at_by_rank : RankedWorld → NodeId → NodeEvent → Boo
 is_admitted_at_by_rank w id event = nat_le id.0 1 && node_admits_by_rank (ranked_at w id) event
 
 abbrev pub is_admitted_by_rank : RankedWorld → Event → Bool
-is_admitted_by_rank w (events.Call id ctx request) = is_admitted_at_by_rank w id (Call ctx (part_of request))
+is_admitted_by_rank w (events.Call id ctx request) = is_admitted_at_by_rank w id (Call ctx request)
 is_admitted_by_rank w (events.Return id task) = is_admitted_at_by_rank w id (Return task)
 is_admitted_by_rank w (events.Tick id) = is_admitted_at_by_rank w id Tick
 is_admitted_by_rank w (events.Deliver number) = is_sent w.packets number
 is_admitted_by_rank w events.Stop = true
-is_admitted_by_rank w _ = false
+is_admitted_by_rank w (events.Begin id) = false
+is_admitted_by_rank w (events.Finish id) = false
 
 -- ---- any list of events
 

@@ -1,22 +1,21 @@
 -- A node whose kernel goes by ranks as numbers, and the step of an event at it. It is this project's own.
-use Rattle.std.specs.Prelude.{ℕ, ◌+◌, Bool, true, false, not, ◌&&◌, List, ◌++◌, ◌==◌, map}
+use Rattle.std.specs.Prelude.{ℕ, ◌+◌, Bool, true, false, not, ◌&&◌, List, ◌++◌, Option, Some, None, ◌==◌, map}
 use Rattle.it_types.specs.declared.id.TaskId.{TaskId}
 use Rattle.it_types.specs.declared.id.CallNo.{CallNo}
 use Rattle.it_types.specs.declared.context.Ctx.{Ctx}
 use Rattle.it_types.specs.declared.context.Ctx.TheVariants as contexts
 use Rattle.it_types.specs.declared.kernel_request.KReq.{KReq}
-use Rattle.it_types.specs.declared.network_request.NReq.{NReq}
+use Rattle.it_types.specs.declared.request.Req.{Req}
 use Rattle.it_types.specs.declared.answer.Ans.{Ans}
 use Rattle.it_types.specs.declared.answer.Ans.TheVariants as answers
 use Rattle.it_types.specs.declared.entry.Out.{Out}
 use Rattle.it_types.specs.Callers.{caller, nobody}
+use Rattle.it_types.specs.Requests.{kernel_of, timeout_of}
 use Rattle.spec_kernel.specs.PlainKernel.{PlainKernel}
 use Rattle.spec_net.specs.declared.outcome.NetAnswer.{NetAnswer}
 use Rattle.spec_net.specs.declared.outcome.NetAnswer.TheVariants as net_answers
-use Rattle.spec_net.specs.UdpRows.{net_call, timeout_of}
+use Rattle.spec_net.specs.UdpRows.{net_call}
 use Rattle.spec_net.specs.Arrival.{arrive}
-use Rattle.spec_node.specs.declared.event.NodeRequest.{NodeRequest}
-use Rattle.spec_node.specs.declared.event.NodeRequest.TheVariants.{Kernel, Network}
 use Rattle.spec_node.specs.declared.event.NodeEvent.{NodeEvent}
 use Rattle.spec_node.specs.declared.event.NodeEvent.TheVariants.{Call, Return, Tick, Arrive}
 use Rattle.spec_node.specs.PlainNode.{PlainNode, holds_answer}
@@ -57,15 +56,16 @@ kernel_called_by_rank n ctx request =
     done_by_rank n (kernel_answer (n.node.calls + 1) o.outcome.answer) o.outcome.gone o.outcome.begun (after_kernel_by_rank (beginning_by_rank n) o)
 
 -- a call of the network part that waits makes its task wait outside
-abbrev pub blocked_where_by_rank : NetAnswer → PlainKernel → Ranks → Ctx → NReq → CallNo → RankedKernel
+abbrev pub blocked_where_by_rank : NetAnswer → PlainKernel → Ranks → Ctx → Req → CallNo → RankedKernel
 blocked_where_by_rank net_answers.Pends k r ctx request number = blocked_by_rank k r (caller ctx) (timeout_of request) number
-blocked_where_by_rank _ k r ctx request number = record { kernel = k; ranks = r }
+blocked_where_by_rank (net_answers.Now code bytes) k r ctx request number = record { kernel = k; ranks = r }
+blocked_where_by_rank net_answers.Quiet k r ctx request number = record { kernel = k; ranks = r }
 
 -- an event of the network part goes on from this kernel
 abbrev pub going_on_with : PlainNode → RankedKernel → RankedProgress
 going_on_with n k = record { node = record (beginning n) { kernel = k.kernel }; ranks = k.ranks }
 
-unfoldable pub network_called_by_rank : RankedNode → Ctx → NReq → RankedNode × Out
+unfoldable pub network_called_by_rank : RankedNode → Ctx → Req → RankedNode × Out
 network_called_by_rank n ctx request =
     let o = net_call n.node.net ctx request (record { 0 = n.node.calls + 1 }) in
     let k = blocked_where_by_rank o.answer n.node.kernel n.ranks ctx request (record { 0 = n.node.calls + 1 }) in
@@ -81,13 +81,14 @@ ticked_by_rank n = done_by_rank n answers.Quiet nobody nobody (timed_out_by_rank
 abbrev pub returned_by_rank : RankedNode → TaskId → RankedNode × Out
 returned_by_rank n task = let stepped = returned n.node task in (record { node = stepped.0; ranks = n.ranks }, stepped.1)
 
-abbrev pub called_by_rank : RankedNode → Ctx → NodeRequest → RankedNode × Out
-called_by_rank n ctx (Kernel request) = kernel_called_by_rank n ctx request
-called_by_rank n ctx (Network request) = network_called_by_rank n ctx request
+-- a call: one of the kernel's, or one of the network part's
+abbrev pub called_as_by_rank : RankedNode → Ctx → Req → Option KReq → RankedNode × Out
+called_as_by_rank n ctx request (Some call) = kernel_called_by_rank n ctx call
+called_as_by_rank n ctx request None = network_called_by_rank n ctx request
 
 -- the step of an event: the node after it, and what it gives
 unfoldable pub node_step_by_rank : RankedNode → NodeEvent → RankedNode × Out
-node_step_by_rank n (Call ctx request) = called_by_rank n ctx request
+node_step_by_rank n (Call ctx request) = called_as_by_rank n ctx request (kernel_of request)
 node_step_by_rank n (Return task) = returned_by_rank n task
 node_step_by_rank n Tick = ticked_by_rank n
 node_step_by_rank n (Arrive bytes) = arrived_by_rank n bytes
