@@ -19,8 +19,13 @@ use Rattle.spec_sim.specs.Schedule.{Plan, PlainPlay, after, node_0, node_1}
 -- ---- packets
 
 abbrev pub is_delivery : Event → Bool
+is_delivery (events.Call id ctx request) = false
+is_delivery (events.Return id task) = false
+is_delivery (events.Begin id) = false
+is_delivery (events.Finish id) = false
+is_delivery (events.Tick id) = false
 is_delivery (events.Deliver number) = true
-is_delivery _ = false
+is_delivery events.Stop = false
 
 -- how many packets were delivered in these entries
 abbrev pub deliveries : List Entry → ℕ
@@ -99,8 +104,13 @@ pub record IsEntry (plan : Plan) (before : List Entry) (p : PlainPlay) (e : Entr
 
 -- nothing follows the stop
 abbrev pub EndsAtStop : Event → List Entry → Type 0
+EndsAtStop (events.Call id ctx request) es = Unit {0}
+EndsAtStop (events.Return id task) es = Unit {0}
+EndsAtStop (events.Begin id) es = Unit {0}
+EndsAtStop (events.Finish id) es = Unit {0}
+EndsAtStop (events.Tick id) es = Unit {0}
+EndsAtStop (events.Deliver number) es = Unit {0}
 EndsAtStop events.Stop es = es ≡ []
-EndsAtStop _ es = Unit {0}
 
 abbrev pub FollowsSchedule : Plan → List Entry → PlainPlay → List Entry → Type 0
 FollowsSchedule plan before p [] = Unit {0}

@@ -85,11 +85,22 @@ next plan p = if is_outstanding p then events.Deliver (record { 0 = p.delivered 
 -- the places of a node's tasks after an event: a call of a task moves its place on
 abbrev pub places_after : NodeId → List Decl → Event → List ℕ → List ℕ
 places_after id decls (events.Call at (contexts.Task task) request) places = if at.0 == id.0 then moved_on decls task places else places
-places_after id decls _ places = places
+places_after id decls (events.Call at contexts.Handler request) places = places
+places_after id decls (events.Return at task) places = places
+places_after id decls (events.Begin at) places = places
+places_after id decls (events.Finish at) places = places
+places_after id decls (events.Tick at) places = places
+places_after id decls (events.Deliver number) places = places
+places_after id decls events.Stop places = places
 
 abbrev pub delivered_after : Event → ℕ → ℕ
+delivered_after (events.Call id ctx request) delivered = delivered
+delivered_after (events.Return id task) delivered = delivered
+delivered_after (events.Begin id) delivered = delivered
+delivered_after (events.Finish id) delivered = delivered
+delivered_after (events.Tick id) delivered = delivered
 delivered_after (events.Deliver number) delivered = delivered + 1
-delivered_after _ delivered = delivered
+delivered_after events.Stop delivered = delivered
 
 unfoldable pub after : Plan → PlainPlay → Event → PlainPlay × Entry
 after plan p event = let stepped = step p.world event in (
