@@ -15,13 +15,12 @@ use Rattle.it_types.specs.declared.event.Event.TheVariants as events
 use Rattle.it_types.specs.declared.entry.Entry.{Entry}
 use Rattle.it_types.specs.declared.entry.Out.{Out}
 use Rattle.spec_node.specs.declared.event.NodeEvent.TheVariants.{Call, Return, Tick, Arrive}
-use Rattle.spec_node.specs.Parts.{part_of}
 use Rattle.spec_world.specs.PlainWorld.{Nodes, Packet, PlainWorld, nodes_step, peer_of, packet_from, entry_of, plain_entry, delivery, step}
 use Rattle.w_world.specs.declared.sent.Sent.{Sent}
 use Rattle.w_world.specs.Sending.{bytes_in, packet_in, world_in}
 use Rattle.w_world.specs.Takes.{nothing, Takes}
 
-pub call_takes : (w : PlainWorld) (id : NodeId) (ctx : Ctx) (request : Req) (nodes : Nodes) (out : Out) → nodes_step w.nodes id (Call ctx (part_of request)) ≡ (nodes, out) → Takes w (events.Call id ctx request) nodes id out
+pub call_takes : (w : PlainWorld) (id : NodeId) (ctx : Ctx) (request : Req) (nodes : Nodes) (out : Out) → nodes_step w.nodes id (Call ctx request) ≡ (nodes, out) → Takes w (events.Call id ctx request) nodes id out
 unfolding step
 call_takes w id ctx request nodes out e = record { is = ap (λ (r : Nodes × Out). (record { nodes = r.0; packets = w.packets ++ map (packet_from id) r.1.packs }, entry_of (events.Call id ctx request) r.1)) e }
 

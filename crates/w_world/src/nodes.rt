@@ -1,9 +1,8 @@
 ghost use Rattle.std.specs.Prelude.{◌≡◌, true, IfOk, nat_le};
+ghost use Rattle.it_types.specs.declared.request.Req.{Req as ARequest};
 ghost use Rattle.it_types.specs.Configuration.{first_conf, kernel_conf, second_conf};
 ghost use Rattle.spec_kernel.specs.Opening.{IsDeclarable};
-ghost use Rattle.spec_node.specs.declared.event.NodeRequest.{NodeRequest};
 ghost use Rattle.spec_node.specs.declared.event.NodeEvent.TheVariants.{Call as Called, Return as Returned, Tick as Ticked, Arrive as Arrived};
-ghost use Rattle.spec_node.specs.Parts.{part_of};
 ghost use Rattle.spec_world.specs.PlainWorld.{nodes_step, opened_world};
 ghost use Rattle.spec_world.specs.Admitted.{is_admitted_at};
 ghost use Rattle.w_world.specs.Room.{HaveRoom};
@@ -52,7 +51,7 @@ impl Nodes {
 
     /// Whether a call is admitted at the node.
     pub fn admits_call(&self, id: NodeId, ctx: Ctx) -> bool
-        ensures { (request : NodeRequest) → result ≡ is_admitted_at self.now id (Called ctx request) }
+        ensures { (request : ARequest) → result ≡ is_admitted_at self.now id (Called ctx request) }
     {
         match id.0 {
             0 => self.first.admits_call(ctx),
@@ -80,9 +79,9 @@ impl Nodes {
         ctx: Ctx,
         request: &Req,
     ) -> Result<Out, NoMemory>
-        requires admitted { is_admitted_at self.old id (Called ctx (part_of request.now)) ≡ true }
+        requires admitted { is_admitted_at self.old id (Called ctx request.now) ≡ true }
         requires room { HaveRoom self.old }
-        ensures { IfOk result (λ o. nodes_step self.old id (Called ctx (part_of request.now)) ≡ (self.new, o)) }
+        ensures { IfOk result (λ o. nodes_step self.old id (Called ctx request.now) ≡ (self.new, o)) }
     {
         if id.0 == 0 {
             self.first.call(alloc, ctx, request)

@@ -9,10 +9,7 @@ use it_types::{Ans, Bytes, CallEnd, Entry, Event, Handler, Mark, Req};
 fn request_size(request: &Req) -> u64
     ensures { result ≡ request_size request.now }
 {
-    match request {
-        Req::UdpSndDat { load, .. } => load.as_slice().len() as u64,
-        _ => 0,
-    }
+    request.load().len() as u64
 }
 
 fn event_size(event: &Event) -> u64
@@ -20,7 +17,12 @@ fn event_size(event: &Event) -> u64
 {
     match event {
         Event::Call(_, _, request) => request_size(request),
-        _ => 0,
+        Event::Return(..)
+        | Event::Begin(_)
+        | Event::Finish(_)
+        | Event::Tick(_)
+        | Event::Deliver(_)
+        | Event::Stop => 0,
     }
 }
 
@@ -29,7 +31,7 @@ fn answer_size(answer: &Ans) -> u64
 {
     match answer {
         Ans::Now(_, bytes) => bytes.as_slice().len() as u64,
-        _ => 0,
+        Ans::Pends(_) | Ans::Later(_) | Ans::Quiet => 0,
     }
 }
 
@@ -47,7 +49,16 @@ fn mark_size(mark: &Mark) -> u64
 {
     match mark {
         Mark::Entered { what } => handler_size(what),
-        _ => 0,
+        Mark::Gone { .. }
+        | Mark::Begun { .. }
+        | Mark::Started { .. }
+        | Mark::Opened { .. }
+        | Mark::Broken { .. }
+        | Mark::Over { .. }
+        | Mark::Lent { .. }
+        | Mark::Back { .. }
+        | Mark::Callback { .. }
+        | Mark::Run { .. } => 0,
     }
 }
 

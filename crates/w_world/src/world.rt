@@ -178,7 +178,12 @@ impl World {
     {
         match ev {
             Event::Deliver(number) => self.packets <= number.0,
-            _ => false,
+            Event::Call(..)
+            | Event::Return(..)
+            | Event::Begin(_)
+            | Event::Finish(_)
+            | Event::Tick(_)
+            | Event::Stop => false,
         }
     }
 
