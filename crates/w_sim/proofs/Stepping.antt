@@ -44,8 +44,13 @@ next_not_refused plan p event on e = not_refused p.history event on (ap (is_admi
 -- ---- how many deliveries
 
 abbrev is_delivery : Event → Bool
+is_delivery (events.Call id ctx request) = false
+is_delivery (events.Return id task) = false
+is_delivery (events.Begin id) = false
+is_delivery (events.Finish id) = false
+is_delivery (events.Tick id) = false
 is_delivery (events.Deliver number) = true
-is_delivery _ = false
+is_delivery events.Stop = false
 
 turn_no_delivery : (id : NodeId) (n : PlainNode) (places : List ℕ) (decls : List Decl) (task : TaskId) → is_delivery (task_event id n places decls task) ≡ false
 turn_no_delivery id n places decls task = elim (cases_Bool (holds_answer n task)) [ inl t ↦ rw t refl | inr f ↦ rw f refl ]

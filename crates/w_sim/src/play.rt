@@ -53,7 +53,12 @@ fn delivered_after(event: &Event, delivered: u32) -> u32
 {
     match event {
         Event::Deliver(_) => delivered + 1,
-        _ => delivered,
+        Event::Call(..)
+        | Event::Return(..)
+        | Event::Begin(_)
+        | Event::Finish(_)
+        | Event::Tick(_)
+        | Event::Stop => delivered,
     }
 }
 
