@@ -4,13 +4,12 @@ use Rattle.std.specs.List.{list_all}
 use Rattle.std.proofs.lemmas.List.{append-nil}
 use Rattle.it_types.specs.declared.request.Req.{Req}
 use Rattle.it_types.specs.declared.request.Req.TheVariants as requests
-use Rattle.it_types.specs.declared.word.Word.{Word}
-use Rattle.it_types.specs.declared.word.Word.TheVariants.{ActTsk, CanAct, ExtTsk, TerTsk, ChgPri, GetPri, TslpTsk, WupTsk, CanWup, RelWai, SusTsk, RsmTsk, FrsmTsk, DlyTsk, RotRdq, GetTid, SigSem, TwaiSem, SetFlg, ClrFlg, TwaiFlg, TsndDtq, FsndDtq, TrcvDtq, SetTim, GetTim, StaCyc, StpCyc, TcpCreRep, TcpDelRep, TcpCreCep, TcpDelCep, TcpAcpCep, TcpConCep, TcpShtCep, TcpClsCep, TcpSndDat, TcpRcvDat, TcpGetBuf, TcpSndBuf, TcpRcvBuf, TcpRelBuf, TcpCanCep, UdpCreCep, UdpDelCep, UdpSndDat, UdpRcvDat, UdpCanCep}
-use Rattle.it_types.specs.declared.word.TheConstants.{ALL_WORDS}
+use Rattle.it_types.specs.declared.calls.Word.{Word}
+use Rattle.it_types.specs.declared.calls.Word.TheVariants.{ExtTsk}
+use Rattle.it_types.specs.declared.calls.TheConstants.{ALL_WORDS}
 use Rattle.it_types.specs.Cursor.{and_then, split_while, is_no_space}
-use Rattle.it_types.specs.Words.{word_text, word_in}
 use Rattle.it_types.specs.Fields.{Fields, Standing, fields_text, fields_at}
-use Rattle.it_types.specs.Calls.{Row, RowOf, row_of, form_in, made_in, form_of, request_of, Call, Of, parts_of}
+use Rattle.it_types.specs.Requests.{word_text, word_in, Row, RowOf, row_of, form_in, made_in, form_of, request_of, Call, Of, parts_of}
 use Rattle.it_types.specs.Lines.{call_word, call_fields_text, call_is_in_range, call_request, word_of, request_text, is_writable, by_row, call_of, if_fits, trace_limit, IsSpelled}
 use Rattle.it_types.proofs.ReadSteps.{read_step, found_is, at_end_is}
 use Rattle.it_types.proofs.Fronts.{split_joins, split_again}
@@ -26,106 +25,14 @@ IsRow w = (list_all is_no_space (word_text w) ≡ true) × ((word_in (word_text 
 
 -- the parts of a request make it again
 pub again : (r : Req) → call_request (parts_of r) ≡ r
-again (requests.ActTsk task) = refl
-again (requests.CanAct task) = refl
 again requests.ExtTsk = refl
-again (requests.TerTsk task) = refl
-again (requests.ChgPri task pri) = refl
-again (requests.GetPri task) = refl
-again (requests.TslpTsk tmo) = refl
-again (requests.WupTsk task) = refl
-again (requests.CanWup task) = refl
-again (requests.RelWai task) = refl
-again (requests.SusTsk task) = refl
-again (requests.RsmTsk task) = refl
-again (requests.FrsmTsk task) = refl
-again (requests.DlyTsk ms) = refl
-again (requests.RotRdq pri) = refl
-again requests.GetTid = refl
-again (requests.SigSem sem) = refl
-again (requests.TwaiSem sem tmo) = refl
-again (requests.SetFlg flg bits) = refl
-again (requests.ClrFlg flg bits) = refl
-again (requests.TwaiFlg flg bits all tmo) = refl
-again (requests.TsndDtq dtq item tmo) = refl
-again (requests.FsndDtq dtq item) = refl
-again (requests.TrcvDtq dtq tmo) = refl
-again (requests.SetTim ms) = refl
-again requests.GetTim = refl
-again (requests.StaCyc cyc) = refl
-again (requests.StpCyc cyc) = refl
-again (requests.TcpCreRep rep port) = refl
-again (requests.TcpDelRep rep) = refl
-again (requests.TcpCreCep cep send recv cbr) = refl
-again (requests.TcpDelCep cep) = refl
-again (requests.TcpAcpCep cep rep tmo) = refl
-again (requests.TcpConCep cep port dest tmo) = refl
-again (requests.TcpShtCep cep) = refl
-again (requests.TcpClsCep cep tmo) = refl
-again (requests.TcpSndDat cep load tmo) = refl
-again (requests.TcpRcvDat cep len tmo) = refl
-again (requests.TcpGetBuf cep tmo) = refl
-again (requests.TcpSndBuf cep load) = refl
-again (requests.TcpRcvBuf cep tmo) = refl
-again (requests.TcpRelBuf cep len) = refl
-again (requests.TcpCanCep cep func) = refl
-again (requests.UdpCreCep cep port cbr) = refl
-again (requests.UdpDelCep cep) = refl
-again (requests.UdpSndDat cep dest load tmo) = refl
-again (requests.UdpRcvDat cep len tmo) = refl
-again (requests.UdpCanCep cep func) = refl
+again _ = refl
 
 -- the word of a call has no space and is found, and the parts of what is made of fields are the word and the fields
 pub row : (w : Word) → IsRow w
 unfolding word_text
-row ActTsk = (refl, (refl, λ f. refl))
-row CanAct = (refl, (refl, λ f. refl))
 row ExtTsk = (refl, (refl, λ f. refl))
-row TerTsk = (refl, (refl, λ f. refl))
-row ChgPri = (refl, (refl, λ f. refl))
-row GetPri = (refl, (refl, λ f. refl))
-row TslpTsk = (refl, (refl, λ f. refl))
-row WupTsk = (refl, (refl, λ f. refl))
-row CanWup = (refl, (refl, λ f. refl))
-row RelWai = (refl, (refl, λ f. refl))
-row SusTsk = (refl, (refl, λ f. refl))
-row RsmTsk = (refl, (refl, λ f. refl))
-row FrsmTsk = (refl, (refl, λ f. refl))
-row DlyTsk = (refl, (refl, λ f. refl))
-row RotRdq = (refl, (refl, λ f. refl))
-row GetTid = (refl, (refl, λ f. refl))
-row SigSem = (refl, (refl, λ f. refl))
-row TwaiSem = (refl, (refl, λ f. refl))
-row SetFlg = (refl, (refl, λ f. refl))
-row ClrFlg = (refl, (refl, λ f. refl))
-row TwaiFlg = (refl, (refl, λ f. refl))
-row TsndDtq = (refl, (refl, λ f. refl))
-row FsndDtq = (refl, (refl, λ f. refl))
-row TrcvDtq = (refl, (refl, λ f. refl))
-row SetTim = (refl, (refl, λ f. refl))
-row GetTim = (refl, (refl, λ f. refl))
-row StaCyc = (refl, (refl, λ f. refl))
-row StpCyc = (refl, (refl, λ f. refl))
-row TcpCreRep = (refl, (refl, λ f. refl))
-row TcpDelRep = (refl, (refl, λ f. refl))
-row TcpCreCep = (refl, (refl, λ f. refl))
-row TcpDelCep = (refl, (refl, λ f. refl))
-row TcpAcpCep = (refl, (refl, λ f. refl))
-row TcpConCep = (refl, (refl, λ f. refl))
-row TcpShtCep = (refl, (refl, λ f. refl))
-row TcpClsCep = (refl, (refl, λ f. refl))
-row TcpSndDat = (refl, (refl, λ f. refl))
-row TcpRcvDat = (refl, (refl, λ f. refl))
-row TcpGetBuf = (refl, (refl, λ f. refl))
-row TcpSndBuf = (refl, (refl, λ f. refl))
-row TcpRcvBuf = (refl, (refl, λ f. refl))
-row TcpRelBuf = (refl, (refl, λ f. refl))
-row TcpCanCep = (refl, (refl, λ f. refl))
-row UdpCreCep = (refl, (refl, λ f. refl))
-row UdpDelCep = (refl, (refl, λ f. refl))
-row UdpSndDat = (refl, (refl, λ f. refl))
-row UdpRcvDat = (refl, (refl, λ f. refl))
-row UdpCanCep = (refl, (refl, λ f. refl))
+row _ = (refl, (refl, λ f. refl))
 
 -- ---- lines
 

@@ -3,10 +3,8 @@ pub mod Cursor
 pub mod Numbers
 pub mod Data
 pub mod Spelling
-pub mod Words
 pub mod Kinds
 pub mod Fields
-pub mod Calls
 pub mod Lines
 pub mod Standings
 pub mod Table

@@ -1,13 +1,12 @@
 -- The line of a call: its word, and its fields. It is this project's own.
 use Rattle.std.specs.Prelude.{◌≡◌, ℕ, Bool, true, List, ◌++◌, Option, Some, None, Result, Ok, Err, if◌then◌else◌}
 use Rattle.it_types.specs.declared.request.Req.{Req}
-use Rattle.it_types.specs.declared.word.Word.{Word}
+use Rattle.it_types.specs.declared.calls.Word.{Word}
 use Rattle.it_types.specs.declared.stop.Stop.{Stop}
 use Rattle.it_types.specs.declared.stop.Stop.TheVariants.{NoRequest}
 use Rattle.it_types.specs.Cursor.{◌>>=◌, at_end, split_while, is_no_space}
-use Rattle.it_types.specs.Words.{word_text, word_in}
 use Rattle.it_types.specs.Fields.{Standing, fields_text, are_in_range, fields_at}
-use Rattle.it_types.specs.Calls.{Row, RowOf, row_of, form_of, request_of, Call, Of, parts_of}
+use Rattle.it_types.specs.Requests.{word_text, word_in, Row, RowOf, row_of, form_of, request_of, Call, Of, parts_of}
 
 -- ---- the text of a request
 

@@ -3,6 +3,7 @@
 
 mod answer;
 mod bytes;
+mod calls;
 mod conf;
 mod context;
 pub mod cursor;
@@ -29,11 +30,11 @@ mod stop;
 mod synced;
 mod table;
 mod timeout;
-mod word;
 pub mod words;
 
 pub use answer::Ans;
 pub use bytes::Bytes;
+pub use calls::{ALL_WORDS, Word};
 pub use conf::{CycConf, CycDecl, DtqDecl, FlgDecl, KConf, SemDecl, SyncConf, TaskConf, TaskDecl};
 pub use context::Ctx;
 pub use entry::{CallEnd, Entry, Out};
@@ -58,4 +59,3 @@ pub use spelling::spell_into;
 pub use synced::Synced;
 pub use table::{PutErr, Table};
 pub use timeout::Tmo;
-pub use word::{ALL_WORDS, Word};

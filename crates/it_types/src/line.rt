@@ -1,7 +1,7 @@
 ghost use Rattle.std.specs.Prelude.{◌≡◌, ◌&&◌};
 ghost use Rattle.it_types.specs.Kinds.{Task, Object, Reception, Point, Number, Port, Delay, Time, Mode, Destination, Load, Timeout, TcpFunction, UdpFunction};
 ghost use Rattle.it_types.specs.Fields.{field_at};
-ghost use Rattle.it_types.specs.Lines.{request_at, Reads};
+ghost use Rattle.it_types.specs.Lines.{Reads};
 ghost use Rattle.it_types.specs.Standings.{standing};
 
 use crate::cursor::after;
@@ -12,7 +12,7 @@ use crate::kinds::{
 };
 use crate::numbers::{number_at, u16_of, u32_of, u63_of};
 use crate::stop::Stop;
-use crate::{Bytes, CepId, EndPt, FnCode, ObjId, RepId, Req, TaskId, Tmo, Word};
+use crate::{Bytes, CepId, EndPt, FnCode, ObjId, RepId, TaskId, Tmo};
 use std::alloc::Global;
 
 /// The rest of the line of a call, whose fields are taken one by one.
@@ -35,7 +35,7 @@ impl<'a> Line<'a> {
     }
 
     #[tactic(auto, unfolding(crate::specs::Cursor::and_then, crate::specs::Fields::field_at, crate::specs::Kinds::number_as))]
-    fn task(&mut self) -> Result<TaskId, Stop>
+    pub(crate) fn task(&mut self) -> Result<TaskId, Stop>
         ensures { Reads (field_at Task (standing self.old)) result (standing self.new) }
     {
         let bytes = after(b" ", self.rest).ok_or(Stop::NoRequest)?;
@@ -46,7 +46,7 @@ impl<'a> Line<'a> {
     }
 
     #[tactic(auto, unfolding(crate::specs::Cursor::and_then, crate::specs::Fields::field_at, crate::specs::Kinds::number_as))]
-    fn object(&mut self) -> Result<ObjId, Stop>
+    pub(crate) fn object(&mut self) -> Result<ObjId, Stop>
         ensures { Reads (field_at Object (standing self.old)) result (standing self.new) }
     {
         let bytes = after(b" ", self.rest).ok_or(Stop::NoRequest)?;
@@ -57,7 +57,7 @@ impl<'a> Line<'a> {
     }
 
     #[tactic(auto, unfolding(crate::specs::Cursor::and_then, crate::specs::Fields::field_at, crate::specs::Kinds::number_as))]
-    fn reception(&mut self) -> Result<RepId, Stop>
+    pub(crate) fn reception(&mut self) -> Result<RepId, Stop>
         ensures { Reads (field_at Reception (standing self.old)) result (standing self.new) }
     {
         let bytes = after(b" ", self.rest).ok_or(Stop::NoRequest)?;
@@ -68,7 +68,7 @@ impl<'a> Line<'a> {
     }
 
     #[tactic(auto, unfolding(crate::specs::Cursor::and_then, crate::specs::Fields::field_at, crate::specs::Kinds::number_as))]
-    fn point(&mut self) -> Result<CepId, Stop>
+    pub(crate) fn point(&mut self) -> Result<CepId, Stop>
         ensures { Reads (field_at Point (standing self.old)) result (standing self.new) }
     {
         let bytes = after(b" ", self.rest).ok_or(Stop::NoRequest)?;
@@ -79,7 +79,7 @@ impl<'a> Line<'a> {
     }
 
     #[tactic(auto, unfolding(crate::specs::Cursor::and_then, crate::specs::Fields::field_at, crate::specs::Kinds::number_as))]
-    fn number(&mut self) -> Result<u32, Stop>
+    pub(crate) fn number(&mut self) -> Result<u32, Stop>
         ensures { Reads (field_at Number (standing self.old)) result (standing self.new) }
     {
         let bytes = after(b" ", self.rest).ok_or(Stop::NoRequest)?;
@@ -90,7 +90,7 @@ impl<'a> Line<'a> {
     }
 
     #[tactic(auto, unfolding(crate::specs::Cursor::and_then, crate::specs::Fields::field_at, crate::specs::Kinds::number_as))]
-    fn port(&mut self) -> Result<u16, Stop>
+    pub(crate) fn port(&mut self) -> Result<u16, Stop>
         ensures { Reads (field_at Port (standing self.old)) result (standing self.new) }
     {
         let bytes = after(b" ", self.rest).ok_or(Stop::NoRequest)?;
@@ -101,7 +101,7 @@ impl<'a> Line<'a> {
     }
 
     #[tactic(auto, unfolding(crate::specs::Cursor::and_then, crate::specs::Fields::field_at, crate::specs::Kinds::number_as))]
-    fn delay(&mut self) -> Result<u32, Stop>
+    pub(crate) fn delay(&mut self) -> Result<u32, Stop>
         ensures { Reads (field_at Delay (standing self.old)) result (standing self.new) }
     {
         let bytes = after(b" ", self.rest).ok_or(Stop::NoRequest)?;
@@ -112,7 +112,7 @@ impl<'a> Line<'a> {
     }
 
     #[tactic(auto, unfolding(crate::specs::Cursor::and_then, crate::specs::Fields::field_at, crate::specs::Kinds::number_as))]
-    fn time(&mut self) -> Result<u64, Stop>
+    pub(crate) fn time(&mut self) -> Result<u64, Stop>
         ensures { Reads (field_at Time (standing self.old)) result (standing self.new) }
     {
         let bytes = after(b" ", self.rest).ok_or(Stop::NoRequest)?;
@@ -123,7 +123,7 @@ impl<'a> Line<'a> {
     }
 
     #[tactic(auto, unfolding(crate::specs::Cursor::and_then, crate::specs::Fields::field_at))]
-    fn mode(&mut self) -> Result<bool, Stop>
+    pub(crate) fn mode(&mut self) -> Result<bool, Stop>
         ensures { Reads (field_at Mode (standing self.old)) result (standing self.new) }
     {
         let bytes = after(b" ", self.rest).ok_or(Stop::NoRequest)?;
@@ -133,7 +133,7 @@ impl<'a> Line<'a> {
     }
 
     #[tactic(auto, unfolding(crate::specs::Cursor::and_then, crate::specs::Fields::field_at))]
-    fn destination(&mut self) -> Result<EndPt, Stop>
+    pub(crate) fn destination(&mut self) -> Result<EndPt, Stop>
         ensures { Reads (field_at Destination (standing self.old)) result (standing self.new) }
     {
         let bytes = after(b" ", self.rest).ok_or(Stop::NoRequest)?;
@@ -143,7 +143,7 @@ impl<'a> Line<'a> {
     }
 
     #[tactic(auto, unfolding(crate::specs::Cursor::and_then, crate::specs::Fields::field_at))]
-    fn load(&mut self, alloc: Global) -> Result<Bytes, Stop>
+    pub(crate) fn load(&mut self, alloc: Global) -> Result<Bytes, Stop>
         ensures { Reads (field_at Load (standing self.old)) result (standing self.new) }
     {
         let bytes = after(b" ", self.rest).ok_or(Stop::NoRequest)?;
@@ -153,7 +153,7 @@ impl<'a> Line<'a> {
     }
 
     #[tactic(auto, unfolding(crate::specs::Cursor::and_then, crate::specs::Fields::field_at))]
-    fn timeout(&mut self) -> Result<Tmo, Stop>
+    pub(crate) fn timeout(&mut self) -> Result<Tmo, Stop>
         ensures { Reads (field_at Timeout (standing self.old)) result (standing self.new) }
     {
         let bytes = after(b" ", self.rest).ok_or(Stop::NoRequest)?;
@@ -163,7 +163,7 @@ impl<'a> Line<'a> {
     }
 
     #[tactic(auto, unfolding(crate::specs::Cursor::and_then, crate::specs::Fields::field_at))]
-    fn tcp_function(&mut self) -> Result<FnCode, Stop>
+    pub(crate) fn tcp_function(&mut self) -> Result<FnCode, Stop>
         ensures { Reads (field_at TcpFunction (standing self.old)) result (standing self.new) }
     {
         let bytes = after(b" ", self.rest).ok_or(Stop::NoRequest)?;
@@ -173,167 +173,12 @@ impl<'a> Line<'a> {
     }
 
     #[tactic(auto, unfolding(crate::specs::Cursor::and_then, crate::specs::Fields::field_at))]
-    fn udp_function(&mut self) -> Result<FnCode, Stop>
+    pub(crate) fn udp_function(&mut self) -> Result<FnCode, Stop>
         ensures { Reads (field_at UdpFunction (standing self.old)) result (standing self.new) }
     {
         let bytes = after(b" ", self.rest).ok_or(Stop::NoRequest)?;
         let (function, rest) = function_at(&UDP_FUNCTIONS, bytes).ok_or(Stop::NoRequest)?;
         self.go_on(rest, true);
         Ok(function)
-    }
-
-    /// The fields of the call with this word.
-    #[tactic(auto, unfolding(crate::specs::Cursor::and_then, crate::specs::Fields::fields_at))]
-    pub(crate) fn request(&mut self, alloc: Global, word: Word) -> Result<Req, Stop>
-        ensures { Reads (request_at word (standing self.old)) result (standing self.new) }
-    {
-        match word {
-            Word::ActTsk => Ok(Req::ActTsk { task: self.task()? }),
-            Word::CanAct => Ok(Req::CanAct { task: self.task()? }),
-            Word::ExtTsk => Ok(Req::ExtTsk),
-            Word::TerTsk => Ok(Req::TerTsk { task: self.task()? }),
-            Word::ChgPri => Ok(Req::ChgPri {
-                task: self.task()?,
-                pri: self.number()?,
-            }),
-            Word::GetPri => Ok(Req::GetPri { task: self.task()? }),
-            Word::TslpTsk => Ok(Req::TslpTsk {
-                tmo: self.timeout()?,
-            }),
-            Word::WupTsk => Ok(Req::WupTsk { task: self.task()? }),
-            Word::CanWup => Ok(Req::CanWup { task: self.task()? }),
-            Word::RelWai => Ok(Req::RelWai { task: self.task()? }),
-            Word::SusTsk => Ok(Req::SusTsk { task: self.task()? }),
-            Word::RsmTsk => Ok(Req::RsmTsk { task: self.task()? }),
-            Word::FrsmTsk => Ok(Req::FrsmTsk { task: self.task()? }),
-            Word::DlyTsk => Ok(Req::DlyTsk { ms: self.delay()? }),
-            Word::RotRdq => Ok(Req::RotRdq {
-                pri: self.number()?,
-            }),
-            Word::GetTid => Ok(Req::GetTid),
-            Word::SigSem => Ok(Req::SigSem {
-                sem: self.object()?,
-            }),
-            Word::TwaiSem => Ok(Req::TwaiSem {
-                sem: self.object()?,
-                tmo: self.timeout()?,
-            }),
-            Word::SetFlg => Ok(Req::SetFlg {
-                flg: self.object()?,
-                bits: self.number()?,
-            }),
-            Word::ClrFlg => Ok(Req::ClrFlg {
-                flg: self.object()?,
-                bits: self.number()?,
-            }),
-            Word::TwaiFlg => Ok(Req::TwaiFlg {
-                flg: self.object()?,
-                bits: self.number()?,
-                all: self.mode()?,
-                tmo: self.timeout()?,
-            }),
-            Word::TsndDtq => Ok(Req::TsndDtq {
-                dtq: self.object()?,
-                item: self.number()?,
-                tmo: self.timeout()?,
-            }),
-            Word::FsndDtq => Ok(Req::FsndDtq {
-                dtq: self.object()?,
-                item: self.number()?,
-            }),
-            Word::TrcvDtq => Ok(Req::TrcvDtq {
-                dtq: self.object()?,
-                tmo: self.timeout()?,
-            }),
-            Word::SetTim => Ok(Req::SetTim { ms: self.time()? }),
-            Word::GetTim => Ok(Req::GetTim),
-            Word::StaCyc => Ok(Req::StaCyc {
-                cyc: self.object()?,
-            }),
-            Word::StpCyc => Ok(Req::StpCyc {
-                cyc: self.object()?,
-            }),
-            Word::TcpCreRep => Ok(Req::TcpCreRep {
-                rep: self.reception()?,
-                port: self.port()?,
-            }),
-            Word::TcpDelRep => Ok(Req::TcpDelRep {
-                rep: self.reception()?,
-            }),
-            Word::TcpCreCep => Ok(Req::TcpCreCep {
-                cep: self.point()?,
-                send: self.number()?,
-                recv: self.number()?,
-                cbr: self.object()?,
-            }),
-            Word::TcpDelCep => Ok(Req::TcpDelCep { cep: self.point()? }),
-            Word::TcpAcpCep => Ok(Req::TcpAcpCep {
-                cep: self.point()?,
-                rep: self.reception()?,
-                tmo: self.timeout()?,
-            }),
-            Word::TcpConCep => Ok(Req::TcpConCep {
-                cep: self.point()?,
-                port: self.port()?,
-                dest: self.destination()?,
-                tmo: self.timeout()?,
-            }),
-            Word::TcpShtCep => Ok(Req::TcpShtCep { cep: self.point()? }),
-            Word::TcpClsCep => Ok(Req::TcpClsCep {
-                cep: self.point()?,
-                tmo: self.timeout()?,
-            }),
-            Word::TcpSndDat => Ok(Req::TcpSndDat {
-                cep: self.point()?,
-                load: self.load(alloc)?,
-                tmo: self.timeout()?,
-            }),
-            Word::TcpRcvDat => Ok(Req::TcpRcvDat {
-                cep: self.point()?,
-                len: self.number()?,
-                tmo: self.timeout()?,
-            }),
-            Word::TcpGetBuf => Ok(Req::TcpGetBuf {
-                cep: self.point()?,
-                tmo: self.timeout()?,
-            }),
-            Word::TcpSndBuf => Ok(Req::TcpSndBuf {
-                cep: self.point()?,
-                load: self.load(alloc)?,
-            }),
-            Word::TcpRcvBuf => Ok(Req::TcpRcvBuf {
-                cep: self.point()?,
-                tmo: self.timeout()?,
-            }),
-            Word::TcpRelBuf => Ok(Req::TcpRelBuf {
-                cep: self.point()?,
-                len: self.number()?,
-            }),
-            Word::TcpCanCep => Ok(Req::TcpCanCep {
-                cep: self.point()?,
-                func: self.tcp_function()?,
-            }),
-            Word::UdpCreCep => Ok(Req::UdpCreCep {
-                cep: self.point()?,
-                port: self.port()?,
-                cbr: self.object()?,
-            }),
-            Word::UdpDelCep => Ok(Req::UdpDelCep { cep: self.point()? }),
-            Word::UdpSndDat => Ok(Req::UdpSndDat {
-                cep: self.point()?,
-                dest: self.destination()?,
-                load: self.load(alloc)?,
-                tmo: self.timeout()?,
-            }),
-            Word::UdpRcvDat => Ok(Req::UdpRcvDat {
-                cep: self.point()?,
-                len: self.number()?,
-                tmo: self.timeout()?,
-            }),
-            Word::UdpCanCep => Ok(Req::UdpCanCep {
-                cep: self.point()?,
-                func: self.udp_function()?,
-            }),
-        }
     }
 }

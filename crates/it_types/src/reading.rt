@@ -1,13 +1,12 @@
 ghost use Rattle.std.specs.Prelude.{◌≡◌, true, IfOk, Some, ℕ};
 ghost use Rattle.it_types.specs.declared.request.Req.{Req as ARequest};
-ghost use Rattle.it_types.specs.Words.{word_in};
+ghost use Rattle.it_types.specs.Requests.{word_in};
 ghost use Rattle.it_types.specs.Lines.{call_of, if_fits, is_writable, request_text, trace_limit, IsSpelled, ReadsWhole};
 
 use crate::cursor::{at_end, is_word, split_word};
 use crate::line::Line;
 use crate::stop::Stop;
-use crate::word::ALL_WORDS;
-use crate::{NoMemory, Req, Word};
+use crate::{ALL_WORDS, NoMemory, Req, Word};
 use std::alloc::Global;
 
 /// The most bytes of data of a call in a trace.

@@ -5,12 +5,11 @@ use Rattle.std.specs.List.{list_all}
 use Rattle.std.specs.Cmp.Lexicographic.{pointwise}
 use Rattle.std.proofs.lemmas.Bool.{and_parts, not-true}
 use Rattle.it_types.specs.declared.request.Req.{Req}
-use Rattle.it_types.specs.declared.word.Word.{Word}
-use Rattle.it_types.specs.declared.word.TheConstants.{ALL_WORDS}
+use Rattle.it_types.specs.declared.calls.Word.{Word}
+use Rattle.it_types.specs.declared.calls.TheConstants.{ALL_WORDS}
 use Rattle.it_types.specs.Cursor.{split_while, is_no_space}
-use Rattle.it_types.specs.Words.{word_text}
 use Rattle.it_types.specs.Lines.{call_fields_text, word_of, request_text, is_writable}
-use Rattle.it_types.specs.Calls.{parts_of}
+use Rattle.it_types.specs.Requests.{word_text, parts_of}
 use Rattle.it_types.proofs.Finding.{found_passes}
 use Rattle.it_types.proofs.LineLaws.{read_again, row, request_split}
 use Rattle.spec_script.specs.declared.script_line.ScriptLine.{ScriptLine}

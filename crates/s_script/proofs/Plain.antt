@@ -13,16 +13,15 @@ use Rattle.it_types.specs.declared.handler.FnCode.TheVariants as functions
 use Rattle.it_types.specs.declared.request.Req.{Req}
 use Rattle.it_types.specs.declared.timeout.Tmo.{Tmo}
 use Rattle.it_types.specs.declared.timeout.Tmo.TheVariants as timeouts
-use Rattle.it_types.specs.declared.word.Word.{Word}
-use Rattle.it_types.specs.declared.word.TheConstants.{ALL_WORDS}
+use Rattle.it_types.specs.declared.calls.Word.{Word}
+use Rattle.it_types.specs.declared.calls.TheConstants.{ALL_WORDS}
 use Rattle.it_types.specs.Address.{address_text, end_point_text}
 use Rattle.it_types.specs.Spelling.{timeout_text, mode_text, function_text}
-use Rattle.it_types.specs.Words.{word_text}
 use Rattle.it_types.specs.Kinds.{Kind, Object, Reception, Point, Number, Port, Delay, Time, Mode, Destination, Load, Timeout, TcpFunction, UdpFunction, Value, text_of, greatest_time, is_written_timeout, is_end_point}
 use Rattle.it_types.specs.Kinds as Kinds
 use Rattle.it_types.specs.Fields.{Form, Fields, field_text, fields_text, are_in_range}
-use Rattle.it_types.specs.Calls.{Of, form_of, parts_of}
-use Rattle.it_types.specs.Calls as calls
+use Rattle.it_types.specs.Requests.{word_text, Of, form_of, parts_of}
+use Rattle.it_types.specs.Requests as calls
 use Rattle.it_types.specs.Lines.{call_word, call_fields_text, call_is_in_range, is_writable}
 use Rattle.it_types.proofs.Finding.{found_passes}
 use Rattle.it_types.proofs.LineLaws.{row}

@@ -1,15 +1,13 @@
 -- Which calls a script may write: those that a part of the stack carries out. It is this project's own.
-use Rattle.std.specs.Prelude.{Bool, true, false, not}
+use Rattle.std.specs.Prelude.{Bool, not, ◌&&◌, is_some}
+use Rattle.std.specs.List.{list_any}
 use Rattle.it_types.specs.declared.request.Req.{Req}
-use Rattle.it_types.specs.declared.request.Req.TheVariants as requests
+use Rattle.it_types.specs.declared.calls.Word.{Word}
 use Rattle.it_types.specs.Callers.{is_nblk}
+use Rattle.it_types.specs.Requests.{kernel_of, timeout_of}
+use Rattle.it_types.specs.Lines.{word_of}
+use Rattle.spec_script.specs.declared.today.TheConstants.{WRITTEN}
 
--- the call of a wait on a semaphore is never non-blocking, and a task ends after its last line alone
+-- a kernel call is never non-blocking
 abbrev pub may_write : Req → Bool
-may_write (requests.DlyTsk ms) = true
-may_write (requests.SigSem sem) = true
-may_write (requests.TwaiSem sem tmo) = not (is_nblk tmo)
-may_write (requests.UdpCreCep cep port cbr) = true
-may_write (requests.UdpSndDat cep dest load tmo) = true
-may_write (requests.UdpRcvDat cep len tmo) = true
-may_write _ = false
+may_write request = list_any (λ word. word == word_of request) WRITTEN && not (is_some (kernel_of request) && is_nblk (timeout_of request))
