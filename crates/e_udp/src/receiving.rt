@@ -4,18 +4,27 @@ ghost use Rattle.it_types.specs.declared.request.Req.{Req};
 ghost use Rattle.it_types.specs.Callers.{is_poll};
 ghost use Rattle.spec_lists.specs.Refusal.{first_refusal};
 ghost use Rattle.spec_wire.specs.Octets.{u16_octets, u32_octets};
+ghost use Rattle.spec_net.specs.NetSettle.{NetAtRest};
 ghost use Rattle.spec_net.specs.Receiving.{receive_bytes, receive_code};
 ghost use Rattle.spec_net.specs.UdpRows.{net_call, refusals};
 ghost use Rattle.e_udp.specs.Contexts.{context_of};
 ghost use Rattle.e_udp.specs.Does.{Does};
 ghost use Rattle.e_udp.specs.Order.{IsAbove};
 
-use crate::points::take_oldest;
+use crate::points::{is_wrong_id, point_at, take_oldest};
+use crate::refusals::is_untold;
+use crate::waits::is_awaited;
 use crate::{Out, Udps};
 use byteorder::{BigEndian, ByteOrder};
-use it_types::{Bytes, CallNo, CepId, E_BOVR, E_TMOUT, EndPt, Er, NoMemory, TaskId, Tmo};
+use it_types::{
+    Bytes, CallNo, CepId, E_BOVR, E_ID, E_NOEXS, E_OBJ, E_PAR, E_TMOUT, EndPt, Er, NoMemory,
+    TaskId, Tmo, first_refusal,
+};
 use spec_net::{NetCall, PendingRequest};
 use std::alloc::Global;
+
+// The most bytes that a call may ask for.
+const GREATEST_LENGTH: u32 = 65280;
 
 // The sender's address, 4 bytes, and its port, 2.
 fn sender(from: EndPt) -> [u8; 6]
@@ -108,6 +117,22 @@ impl Udps {
                 })?;
                 Ok(Out::pending(alloc))
             }
+        }
+    }
+
+    // The code with which `udp_rcv_dat` is refused, if it is; in a handler it is a poll.
+    fn rcv_refusal(&self, by: TaskId, cep: CepId, len: u32, tmo: Tmo) -> Option<Er>
+        requires handler { by.0 ≡ 0 → is_poll tmo ≡ true }
+        ensures code { result ≡ first_refusal (refusals self.now (context_of by) (Req.UdpRcvDat cep len tmo)) }
+        ensures rest { NetAtRest self.now }
+    {
+        let point = point_at(&self.points, cep);
+        first_refusal! {
+            is_wrong_id(cep.0) => E_ID,
+            point.is_none() => E_NOEXS,
+            len > GREATEST_LENGTH => E_PAR,
+            is_untold(point, tmo) => E_PAR,
+            is_awaited(&self.calls, cep) => E_OBJ,
         }
     }
 }

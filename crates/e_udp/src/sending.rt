@@ -1,18 +1,26 @@
 ghost use Rattle.std.specs.Prelude.{◌≡◌, ◌≢◌, ◌≤◌, IfOk, length, option_copied};
 ghost use Rattle.it_types.specs.declared.request.Req.{Req};
+ghost use Rattle.spec_lists.specs.Refusal.{first_refusal};
 ghost use Rattle.spec_lists.specs.Tables.{get};
+ghost use Rattle.spec_net.specs.NetSettle.{NetAtRest};
 ghost use Rattle.spec_net.specs.Packets.{sent_packet};
 ghost use Rattle.spec_net.specs.Receiving.{count_code};
-ghost use Rattle.spec_net.specs.UdpRows.{net_call, local_port, sent};
+ghost use Rattle.spec_net.specs.UdpRows.{net_call, local_port, refusals, sent};
 ghost use Rattle.e_udp.specs.Contexts.{context_of};
 ghost use Rattle.e_udp.specs.Does.{Does};
 
-use crate::points::point_at;
+use crate::points::{is_wrong_id, point_at};
+use crate::refusals::is_untold;
 use crate::{Out, Point, Udps};
-use it_types::{Bytes, CallNo, CepId, EndPt, Er, NoMemory, TaskId, Tmo};
+use it_types::{
+    Bytes, CallNo, CepId, E_ID, E_NOEXS, E_PAR, EndPt, Er, NoMemory, TaskId, Tmo, first_refusal,
+};
 use net_ip4::Datagram;
 use net_udp::Udp;
 use std::alloc::Global;
+
+// The most data of a datagram that fits a packet of 1,500 bytes.
+const GREATEST_LOAD: usize = 1472;
 
 // The protocol number of UDP.
 pub(crate) const UDP_PROTOCOL: u8 = 17;
@@ -90,5 +98,23 @@ impl Udps {
         let port = local_port(point_at(&self.points, cep));
         let packet = packet(alloc, self.addr, port, dest, load)?;
         Out::sending(alloc, count_code(load), packet)
+    }
+
+    // The code with which `udp_snd_dat` of a task is refused, if it is.
+    fn snd_refusal(&self, by: TaskId, cep: CepId, dest: EndPt, load: &[u8], tmo: Tmo) -> Option<Er>
+        requires task { by.0 ≢ 0 }
+        ensures code { result ≡ first_refusal (refusals self.now (context_of by) (Req.UdpSndDat cep dest load.now tmo)) }
+        ensures rest { NetAtRest self.now }
+    {
+        let point = point_at(&self.points, cep);
+        first_refusal! {
+            is_wrong_id(cep.0) => E_ID,
+            point.is_none() => E_NOEXS,
+            dest.addr == self.addr => E_PAR,
+            dest.addr == 0 => E_PAR,
+            dest.port == 0 => E_PAR,
+            load.len() > GREATEST_LOAD => E_PAR,
+            is_untold(point, tmo) => E_PAR,
+        }
     }
 }

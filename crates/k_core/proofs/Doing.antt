@@ -31,8 +31,7 @@ use Rattle.spec_kernel.proofs.Timing.{due_alone, due_none, next_past_none}
 use Rattle.spec_kernel.specs.declared.outcome.KEnd.{KEnd}
 use Rattle.k_core.specs.ByTime.{ended_alone}
 use Rattle.spec_kernel.specs.Rows.{is_on, refusals, answered, waiting, accepted, exited, call}
-use Rattle.spec_kernel.proofs.Allowed.{signal_not_full}
-use Rattle.spec_kernel.proofs.RowCases.{acquired, call_refused, delay_waits, exit_ends, signal_ends, signal_raises, signalled, wait_accepts, wait_takes}
+use Rattle.spec_kernel.proofs.RowCases.{acquired, call_refused, delay_waits, exit_ends, signal_ends, signal_raises, signalled, wait_accepts, wait_takes, signal_not_full}
 use Rattle.k_core.specs.declared.done.Done.{Done}
 use Rattle.k_core.specs.Does.{Does}
 

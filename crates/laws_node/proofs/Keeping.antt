@@ -29,7 +29,7 @@ use Rattle.spec_net.specs.NetSettle.{is_ready, first_ready, taken, freed, settle
 use Rattle.spec_net.specs.UdpRows.{is_receive_at, row, net_call}
 use Rattle.spec_net.specs.Arrival.{joined, given, delivered, after_arrival, quiet, arrive}
 use Rattle.spec_net.specs.NetEnds.{has_number, numbered, ended_at, ended}
-use Rattle.spec_node.proofs.NetActs.{row_acts}
+use Rattle.spec_net.proofs.NetActs.{row_acts}
 use Rattle.laws_kernel.specs.Runnable.{one_if}
 use Rattle.laws_kernel.proofs.Counting.{one_at_most}
 use Rattle.laws_node.specs.Agreement.{times}

@@ -1,4 +1,3 @@
-pub mod Allowed
 pub mod Declared
 pub mod Least
 pub mod Leaving

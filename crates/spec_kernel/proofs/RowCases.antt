@@ -1,5 +1,6 @@
 -- The rows case by case: the outcome of each call, and that no call is ready after it.
-use Rattle.std.proofs.Common.{◌≡◌, ℕ, ◌+◌, ◌-◌, ◌<◌, true, false, List, [], ◌∷◌, ◌++◌, Option, Some, None, refl, ap, ◌∙◌, inl, inr, arith}
+use Rattle.std.proofs.Common.{◌≡◌, ℕ, ◌+◌, ◌-◌, ◌<◌, true, false, not, ◌&&◌, is_none, List, [], ◌∷◌, ◌++◌, Option, Some, None, refl, ap, ◌∙◌, inl, inr, arith}
+use Rattle.std.specs.List.{list_any}
 use Rattle.std.proofs.lemmas.Bool.{cases_Bool, eqb-true, lt-ltb}
 use Rattle.it_types.specs.declared.id.ObjId.{ObjId}
 use Rattle.it_types.specs.declared.id.TaskId.{TaskId}
@@ -16,17 +17,17 @@ use Rattle.spec_lists.specs.Tables.{get, change}
 use Rattle.spec_lists.specs.First.{take_first}
 use Rattle.spec_lists.specs.Refusal.{first_refusal}
 use Rattle.spec_lists.proofs.Changes.{change_undone}
-use Rattle.spec_lists.proofs.Firsts.{found, none_append, none_from_parts}
+use Rattle.spec_lists.proofs.Firsts.{found, none_any, none_append, none_from_parts}
+use Rattle.spec_lists.proofs.Refusing.{none_holds}
 use Rattle.spec_kernel.specs.declared.semaphore.Semaphore.{Semaphore}
 use Rattle.spec_kernel.specs.declared.wait.Wait.{Wait}
 use Rattle.spec_kernel.specs.declared.wait.WaitFor.{WaitFor}
 use Rattle.spec_kernel.specs.declared.wait.WaitFor.TheVariants as targets
 use Rattle.spec_kernel.specs.declared.outcome.KAns.TheVariants.{Now}
 use Rattle.spec_kernel.specs.PlainKernel.{PlainKernel}
-use Rattle.spec_kernel.specs.Semaphores.{count_of, one_more, one_less}
+use Rattle.spec_kernel.specs.Semaphores.{count_of, is_full, one_more, one_less}
 use Rattle.spec_kernel.specs.Settle.{Outcome, is_met, is_ready, first_ready, AtRest, taken, woken, freed, end_of, settled}
 use Rattle.spec_kernel.specs.Rows.{is_for, is_on, deadline_of, refusals, answered, waiting, accepted, exited, carried_out, row, call}
-use Rattle.spec_kernel.proofs.Allowed.{signal_there}
 use Rattle.spec_kernel.proofs.Readiness.{first_raised, none_lowered}
 use Rattle.spec_kernel.proofs.Settling.{settled_none, settled_one}
 
@@ -59,6 +60,25 @@ pub row_carried_out : (k : PlainKernel) (ctx : Ctx) (request : KReq) (number : C
     → first_refusal (refusals k ctx request) ≡ None
     → row k ctx request number ≡ carried_out k ctx request number
 row_carried_out k ctx request number e = rw e refl
+
+-- ---- signals
+
+there : (o : Option Semaphore) → is_none o ≡ false → (m : Semaphore) × (o ≡ Some m)
+there None e = cc
+there (Some m) e = (m, refl)
+
+-- a signal is for a semaphore that is there
+pub signal_there : (k : PlainKernel) (ctx : Ctx) (s : ObjId) → first_refusal (refusals k ctx (SigSem s)) ≡ None → (m : Semaphore) × (get k.semaphores s.0 ≡ Some m)
+signal_there k ctx s allowed = there (get k.semaphores s.0) (none_holds (refusals k ctx (SigSem s)) allowed).1.0
+
+-- a semaphore on which no call waits is signalled only where it isn't full
+pub signal_not_full : (k : PlainKernel) (ctx : Ctx) (s : ObjId)
+    → first_refusal (refusals k ctx (SigSem s)) ≡ None
+    → take_first (is_on s) k.waits ≡ None
+    → is_full (get k.semaphores s.0) ≡ false
+signal_not_full k ctx s allowed none =
+    let fits : (not (list_any (is_on s) k.waits) && is_full (get k.semaphores s.0)) ≡ false = (none_holds (refusals k ctx (SigSem s)) allowed).1.1.0 in
+    rw (none_any (is_on s) k.waits none) at fits
 
 -- the kernel after a signal on which no call waits
 abbrev pub signalled : PlainKernel → ObjId → PlainKernel

@@ -7,6 +7,7 @@ use Rattle.it_types.specs.declared.context.Ctx.TheVariants.{Handler}
 use Rattle.it_types.specs.declared.timeout.Tmo.{Tmo}
 use Rattle.it_types.specs.declared.timeout.Tmo.TheVariants.{Pol, Nblk, Fevr, Ms}
 use Rattle.it_types.specs.Callers.{is_nblk}
+use Rattle.it_types.proofs.CallWords.{creates, sends, receives}
 use Rattle.spec_wire.specs.Sum.{ones_sum}
 use Rattle.spec_wire.specs.Ipv4 as ipv4
 use Rattle.spec_wire.specs.Udp as udp
@@ -21,7 +22,7 @@ use Rattle.spec_net.specs.NetSettle.{settle, net_settled}
 use Rattle.spec_net.specs.UdpRows.{net_call}
 use Rattle.spec_net.specs.Arrival.{arrive}
 use Rattle.spec_net.specs.NetEnds.{ended}
-use Rattle.spec_net.proofs.Examples.{first_addr, second_addr, end_point, point, datagram, two_points, net_of, receiving, task_3, number, creates, sends, receives, answers, end}
+use Rattle.spec_net.proofs.Examples.{first_addr, second_addr, end_point, point, datagram, two_points, net_of, receiving, task_3, number, answers, end}
 
 -- ---- end points
 

@@ -5,9 +5,6 @@ use Rattle.it_types.specs.declared.id.EndPt.{EndPt}
 use Rattle.it_types.specs.declared.id.CallNo.{CallNo}
 use Rattle.it_types.specs.declared.context.Ctx.{Ctx}
 use Rattle.it_types.specs.declared.context.Ctx.TheVariants as contexts
-use Rattle.it_types.specs.declared.timeout.Tmo.{Tmo}
-use Rattle.it_types.specs.declared.request.Req.{Req}
-use Rattle.it_types.specs.declared.request.Req.TheVariants.{UdpCreCep, UdpSndDat, UdpRcvDat}
 use Rattle.spec_net.specs.declared.point.Received.{Received}
 use Rattle.spec_net.specs.declared.point.UdpPoint.{UdpPoint}
 use Rattle.spec_net.specs.declared.pending.NetCall.{NetCall}
@@ -48,15 +45,6 @@ task_3 = contexts.Task (record { 0 = 3 })
 
 abbrev pub number : ℕ → CallNo
 number n = record { 0 = n }
-
-abbrev pub creates : ℕ → ℕ → ℕ → Req
-creates cep port routine = UdpCreCep (record { 0 = cep }) port (record { 0 = routine })
-
-abbrev pub sends : ℕ → EndPt → List ℕ → Tmo → Req
-sends cep dest load tmo = UdpSndDat (record { 0 = cep }) dest load tmo
-
-abbrev pub receives : ℕ → ℕ → Tmo → Req
-receives cep len tmo = UdpRcvDat (record { 0 = cep }) len tmo
 
 -- answered at once, with nothing beside
 abbrev pub answers : PlainNet → ℤ → List ℕ → NetOutcome

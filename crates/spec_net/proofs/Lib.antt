@@ -6,3 +6,4 @@ pub mod RowCases
 pub mod ArrivalCases
 pub mod FreePorts
 pub mod Keeping
+pub mod NetActs

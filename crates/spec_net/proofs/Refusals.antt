@@ -4,11 +4,12 @@ use Rattle.std.specs.Prelude.{negsuc}
 use Rattle.it_types.specs.declared.id.EndPt.{EndPt}
 use Rattle.it_types.specs.declared.context.Ctx.TheVariants.{Handler}
 use Rattle.it_types.specs.declared.timeout.Tmo.TheVariants.{Pol, Nblk, Fevr}
+use Rattle.it_types.proofs.CallWords.{creates, sends, receives}
 use Rattle.spec_lists.specs.Refusal.{first_refusal}
 use Rattle.spec_net.specs.PlainNet.{PlainNet}
 use Rattle.spec_net.specs.NetSettle.{settle, net_settled}
 use Rattle.spec_net.specs.UdpRows.{refusals, net_call}
-use Rattle.spec_net.proofs.Examples.{first_addr, second_addr, end_point, point, two_points, net_of, receiving, task_3, number, creates, sends, receives, answers}
+use Rattle.spec_net.proofs.Examples.{first_addr, second_addr, end_point, point, two_points, net_of, receiving, task_3, number, answers}
 
 -- the ports 1000 and 1001 are taken, and nothing has come
 abbrev net : PlainNet
@@ -25,7 +26,7 @@ peer = end_point second_addr 2000
 abbrev too_long : List ℕ
 too_long = replicate 1473 0
 
--- ---- `udp_cre_cep`
+-- ---- the creation of an end point
 
 pub create_context : net_call net Handler (creates 3 1002 0) (number 7) ≡ answers net (negsuc 24) []
 unfolding net_call net_settled settle
@@ -71,7 +72,7 @@ pub create_routine : net_call net task_3 (creates 3 1002 5) (number 7) ≡ answe
 unfolding net_call net_settled settle
 create_routine = refl
 
--- ---- `udp_snd_dat`
+-- ---- sending
 
 pub send_context : net_call net Handler (sends 1 peer (7 ∷ []) Fevr) (number 7) ≡ answers net (negsuc 24) []
 unfolding net_call net_settled settle
@@ -144,7 +145,7 @@ send_longest = refl
 pub send_empty : first_refusal (refusals net task_3 (sends 1 peer [] Pol)) ≡ None
 send_empty = refl
 
--- ---- `udp_rcv_dat`
+-- ---- receiving
 
 pub receive_context : net_call net Handler (receives 1 5 Fevr) (number 7) ≡ answers net (negsuc 24) []
 unfolding net_call net_settled settle

@@ -1,4 +1,4 @@
--- Taking the oldest datagram of an end point (ITRON TCP/IP API, `udp_rcv_dat`): the answer has the sender's address and port
+-- Taking the oldest datagram of an end point (ITRON TCP/IP API, the reception of UDP packets): the answer has the sender's address and port
 -- before the data. That a longer datagram gives its first bytes with E_BOVR is of the API; the six bytes are this project's
 -- own.
 use Rattle.std.specs.Prelude.{ℕ, pos, List, [], ◌∷◌, ◌++◌, length, take, Option, Some, None, nat_lt, if◌then◌else◌}

@@ -3,7 +3,7 @@ use it_types::{CallNo, CepId, TaskId};
 /// What a call of the network part waits for.
 #[derive(Clone, Copy, Debug, PartialEq, Eq)]
 pub enum PendingRequest {
-    /// A datagram at the end point, of which at most so many bytes are wanted (`udp_rcv_dat`).
+    /// A datagram at the end point, of which at most so many bytes are wanted.
     UdpReceive { cep: CepId, len: u32 },
 }
 

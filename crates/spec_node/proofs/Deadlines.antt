@@ -2,6 +2,7 @@
 use Rattle.std.proofs.Common.{◌≡◌, ℕ, List, [], ◌∷◌, refl}
 use Rattle.std.specs.Prelude.{pos, negsuc}
 use Rattle.it_types.specs.declared.timeout.Tmo.TheVariants.{Pol, Fevr, Ms}
+use Rattle.it_types.proofs.CallWords.{delays, waits, creates, receives}
 use Rattle.spec_wire.specs.Sum.{ones_sum}
 use Rattle.spec_wire.specs.Ipv4 as ipv4
 use Rattle.spec_wire.specs.Udp as udp
@@ -18,7 +19,7 @@ use Rattle.spec_net.specs.NetEnds.{ended}
 use Rattle.spec_node.specs.declared.event.NodeEvent.TheVariants.{Tick, Arrive}
 use Rattle.spec_node.specs.Progress.{after_kernel, time_out, timed_out}
 use Rattle.spec_node.specs.NodeStep.{kernel_called, network_called, arrived, ticked, returned, node_step}
-use Rattle.spec_node.proofs.Examples.{outs, task, semaphore, node, calls, returns, delays, waits, creates, receives, code, pends, end, ends_and_runs, nothing}
+use Rattle.spec_node.proofs.Examples.{outs, task, semaphore, node, calls, returns, code, pends, end, ends_and_runs, nothing}
 
 -- "hi" from 10.0.0.1:1000 to 10.0.0.2:2000
 abbrev hi_packet : List ℕ

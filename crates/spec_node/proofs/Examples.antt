@@ -1,13 +1,10 @@
 -- Words for worked histories of a node: its declarations, its events, and what each gives.
 use Rattle.std.proofs.Common.{ℕ, true, false, List, [], ◌∷◌, Option, Some, None}
 use Rattle.std.specs.Prelude.{ℤ}
-use Rattle.it_types.specs.declared.id.EndPt.{EndPt}
 use Rattle.it_types.specs.declared.context.Ctx.TheVariants as contexts
 use Rattle.it_types.specs.declared.conf.TaskDecl.{TaskDecl}
 use Rattle.it_types.specs.declared.conf.SemDecl.{SemDecl}
 use Rattle.it_types.specs.declared.request.Req.{Req}
-use Rattle.it_types.specs.declared.request.Req.TheVariants.{ExtTsk, DlyTsk, SigSem, TwaiSem, UdpCreCep, UdpSndDat, UdpRcvDat}
-use Rattle.it_types.specs.declared.timeout.Tmo.{Tmo}
 use Rattle.it_types.specs.declared.answer.Ans.{Ans}
 use Rattle.it_types.specs.declared.answer.Ans.TheVariants as answers
 use Rattle.it_types.specs.declared.mark.Mark.{Mark}
@@ -41,27 +38,6 @@ calls id request = Call (contexts.Task (record { 0 = id })) request
 
 abbrev pub returns : ℕ → NodeEvent
 returns id = Return (record { 0 = id })
-
-abbrev pub delays : ℕ → Req
-delays ticks = DlyTsk ticks
-
-abbrev pub waits : ℕ → Tmo → Req
-waits semaphore tmo = TwaiSem (record { 0 = semaphore }) tmo
-
-abbrev pub signals : ℕ → Req
-signals semaphore = SigSem (record { 0 = semaphore })
-
-abbrev pub exits : Req
-exits = ExtTsk
-
-abbrev pub creates : ℕ → ℕ → ℕ → Req
-creates cep port routine = UdpCreCep (record { 0 = cep }) port (record { 0 = routine })
-
-abbrev pub sends : ℕ → EndPt → List ℕ → Tmo → Req
-sends cep dest load tmo = UdpSndDat (record { 0 = cep }) dest load tmo
-
-abbrev pub receives : ℕ → ℕ → Tmo → Req
-receives cep len tmo = UdpRcvDat (record { 0 = cep }) len tmo
 
 -- ---- what they give
 

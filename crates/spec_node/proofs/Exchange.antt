@@ -4,6 +4,7 @@ use Rattle.std.specs.Prelude.{pos, negsuc}
 use Rattle.it_types.specs.declared.timeout.Tmo.TheVariants.{Pol, Fevr}
 use Rattle.it_types.specs.declared.answer.Ans.TheVariants as answers
 use Rattle.it_types.specs.declared.id.EndPt.{EndPt}
+use Rattle.it_types.proofs.CallWords.{delays, creates, sends, receives}
 use Rattle.spec_wire.specs.Sum.{ones_sum}
 use Rattle.spec_wire.specs.Ipv4 as ipv4
 use Rattle.spec_wire.specs.Udp as udp
@@ -20,7 +21,7 @@ use Rattle.spec_net.specs.NetEnds.{ended}
 use Rattle.spec_node.specs.declared.event.NodeEvent.TheVariants.{Tick, Arrive}
 use Rattle.spec_node.specs.Progress.{after_kernel, time_out, timed_out}
 use Rattle.spec_node.specs.NodeStep.{kernel_called, network_called, arrived, ticked, returned, node_step}
-use Rattle.spec_node.proofs.Examples.{outs, task, node, calls, returns, delays, creates, sends, receives, gives, code, pends, end, ends_and_runs, nothing}
+use Rattle.spec_node.proofs.Examples.{outs, task, node, calls, returns, gives, code, pends, end, ends_and_runs, nothing}
 
 -- "hi" from 10.0.0.1:1000 to 10.0.0.2:2000
 abbrev hi_packet : List ℕ

@@ -5,7 +5,6 @@ use Rattle.it_types.specs.declared.id.EndPt.{EndPt}
 use Rattle.it_types.specs.declared.context.Ctx.{Ctx}
 use Rattle.it_types.specs.declared.context.Ctx.TheVariants as contexts
 use Rattle.it_types.specs.declared.request.Req.{Req}
-use Rattle.it_types.specs.declared.request.Req.TheVariants as requests
 use Rattle.it_types.specs.declared.timeout.Tmo.{Tmo}
 use Rattle.it_types.specs.declared.timeout.Tmo.TheVariants as timeouts
 use Rattle.it_types.specs.declared.event.Event.{Event}
@@ -16,6 +15,7 @@ use Rattle.it_types.specs.declared.mark.Mark.{Mark}
 use Rattle.it_types.specs.declared.mark.Mark.TheVariants as marks
 use Rattle.it_types.specs.declared.entry.CallEnd.{CallEnd}
 use Rattle.it_types.specs.declared.entry.Entry.{Entry}
+use Rattle.it_types.proofs.CallWords as calls
 use Rattle.spec_script.specs.declared.script.Script.{Script}
 use Rattle.spec_script.specs.declared.decl.Decl.{Decl}
 use Rattle.spec_script.specs.declared.decl.Decl.TheVariants as declarations
@@ -41,25 +41,25 @@ abbrev pub semaphore : ℕ → ℕ → ℕ → Decl
 semaphore id init max = declarations.Sem (record { id = id; pri = false; init = init; max = max })
 
 abbrev pub waits : ℕ → Req
-waits id = requests.TwaiSem (record { 0 = id }) timeouts.Fevr
+waits id = calls.waits id timeouts.Fevr
 
 abbrev pub waits_up_to : ℕ → ℕ → Req
-waits_up_to id ticks = requests.TwaiSem (record { 0 = id }) (timeouts.Ms ticks)
+waits_up_to id ticks = calls.waits id (timeouts.Ms ticks)
 
 abbrev pub delays : ℕ → Req
-delays ticks = requests.DlyTsk ticks
+delays ticks = calls.delays ticks
 
 abbrev pub signals : ℕ → Req
-signals id = requests.SigSem (record { 0 = id })
+signals id = calls.signals id
 
 abbrev pub creates : ℕ → ℕ → Req
-creates cep port = requests.UdpCreCep (record { 0 = cep }) port (record { 0 = 0 })
+creates cep port = calls.creates cep port 0
 
 abbrev pub sends : ℕ → EndPt → List ℕ → Req
-sends cep dest load = requests.UdpSndDat (record { 0 = cep }) dest load timeouts.Fevr
+sends cep dest load = calls.sends cep dest load timeouts.Fevr
 
 abbrev pub receives : ℕ → ℕ → Tmo → Req
-receives cep len tmo = requests.UdpRcvDat (record { 0 = cep }) len tmo
+receives cep len tmo = calls.receives cep len tmo
 
 abbrev pub line : Req → Line
 line request = body_lines.Call request
@@ -109,7 +109,7 @@ abbrev pub run_mark : ℕ → Mark
 run_mark id = marks.Run (record { 0 = id })
 
 abbrev pub exits : Req
-exits = requests.ExtTsk
+exits = calls.exits
 
 -- a tick with the ends of calls, and the marks
 abbrev pub tick_with : ℕ → List CallEnd → List Mark → Entry

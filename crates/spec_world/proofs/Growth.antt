@@ -36,7 +36,7 @@ use Rattle.spec_node.specs.PlainNode.{PlainNode}
 use Rattle.spec_node.specs.Progress.{Progress, woken_by, after_end, after_ends, after_kernel, time_out, timed_out}
 use Rattle.spec_node.specs.NodeStep.{beginning, blocked_where, kernel_answer, net_answer, drawn, kernel_called, network_called, called_as, arrived, ticked as ticked_node, returned, node_step}
 use Rattle.spec_node.proofs.Progressing.{woken_by_keeps}
-use Rattle.spec_node.proofs.NetActs.{row_acts}
+use Rattle.spec_net.proofs.NetActs.{row_acts}
 
 -- ---- numbers
 
