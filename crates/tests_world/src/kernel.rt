@@ -2,8 +2,8 @@ ghost use Rattle.std.specs.Prelude.{◌≡◌, true};
 ghost use Rattle.k_core.specs.TimeOuts.{may_wait};
 
 use it_types::{
-    CallNo, Ctx, CycConf, E_CTX, E_OK, E_QOVR, E_TMOUT, Er, KConf, KReq, List, NoMemory, ObjId,
-    SemDecl, SyncConf, TaskConf, TaskDecl, TaskId, Tmo,
+    CallNo, Ctx, CycConf, E_CTX, E_NOSPT, E_OK, E_QOVR, E_TMOUT, Er, KConf, KReq, List, NoMemory,
+    ObjId, SemDecl, SyncConf, TaskConf, TaskDecl, TaskId, Tmo,
 };
 use k_core::{Done, KAns, KEnd, Kernel};
 use std::alloc::Global;
@@ -220,6 +220,27 @@ fn a_handler_has_no_delay(rt: HostRuntime) -> Result<(), Fail> {
     assert!(rt; kernel.now() < 1 << 60);
     let done = kernel.call(Ctx::Handler, &KReq::DlyTsk { ms: 1 }, CallNo(1));
     expect_code(&rt, &done, E_CTX);
+    Ok(())
+}
+
+#[test]
+fn a_call_of_no_part_is_not_supported(rt: HostRuntime) -> Result<(), Fail> {
+    let mut kernel = opened(&rt, rt.alloc(), 0)?;
+    let suspends = KReq::SusTsk { task: SECOND };
+    expect_code(
+        &rt,
+        &call_by(&rt, &mut kernel, FIRST, &suspends, 1),
+        E_NOSPT,
+    );
+    assert!(rt; kernel.now() < 1 << 60);
+    assert!(rt; kernel.is_above(CallNo(1)));
+    expect_code(
+        &rt,
+        &kernel.call(Ctx::Handler, &suspends, CallNo(1)),
+        E_NOSPT,
+    );
+    expect_pends(&rt, &call_by(&rt, &mut kernel, FIRST, &wait(Tmo::Fevr), 1));
+    expect_running(&rt, &kernel, SECOND);
     Ok(())
 }
 

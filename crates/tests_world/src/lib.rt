@@ -1,5 +1,5 @@
-//! Tests of sources and sinks, of the kernel, of scripts and of two nodes. They are a crate of their own, since a crate with tests is proved
-//! a second time with them.
+//! Tests of tables and the text of calls, of sources and sinks, of the kernel, of scripts and of two nodes. They are a crate of
+//! their own, since a crate with tests is proved a second time with them.
 #![tactic(auto)]
 
 #[cfg(test)]
@@ -8,5 +8,7 @@ mod kernel;
 mod scripts;
 #[cfg(test)]
 mod streams;
+#[cfg(test)]
+mod words;
 #[cfg(test)]
 mod world;

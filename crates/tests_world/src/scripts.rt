@@ -124,6 +124,11 @@ fn names_the_cause_of_a_wrong_call(rt: HostRuntime) -> Result<(), Fail> {
         ("udp_snd_dat 1 10.0.0.2:7 x0g pol", Why::Form),
         ("udp_snd_dat 1 10.0.0.2:7 00 pol", Why::Form),
         ("udp_snd_dat 1 10.0.0.2:7 x00", Why::Form),
+        ("ext_tsk", Why::Form),
+        ("act_tsk 1", Why::Form),
+        ("get_tim", Why::Form),
+        ("udp_del_cep 1", Why::Form),
+        ("tcp_cre_rep 1 65536", Why::Form),
     ];
     for (call, why) in table {
         let text = format!(in rt.alloc();

@@ -1,6 +1,6 @@
 use it_types::{
-    Ans, Bytes, CallNo, CepId, Conf, Ctx, E_BOVR, E_OK, EndPt, Entry, Er, Event, FlgDecl, List,
-    NoMemory, NodeConf, NodeId, ObjId, PackNo, Req, SemDecl, TaskDecl, TaskId, Tmo,
+    Ans, Bytes, CallNo, CepId, Conf, Ctx, E_BOVR, E_NOSPT, E_OK, EndPt, Entry, Er, Event, FlgDecl,
+    List, NoMemory, NodeConf, NodeId, ObjId, PackNo, RepId, Req, SemDecl, TaskDecl, TaskId, Tmo,
 };
 use std::alloc::Global;
 use std::process::Abort;
@@ -255,6 +255,18 @@ fn refused_events_change_nothing(rt: HostRuntime) -> Result<(), Fail> {
     );
     assert!(rt; !world.full() && !world.ended());
     assert!(rt; world.node(NodeId(2)).is_none());
+    Ok(())
+}
+
+#[test]
+fn a_call_of_no_part_is_answered_at_once(rt: HostRuntime) -> Result<(), Fail> {
+    let alloc = rt.alloc();
+    let mut world = two_nodes_opened(&rt, alloc)?;
+    take(&rt, alloc, &mut world, call(0, 1, Req::GetTid));
+    expect_answer(&rt, &world, E_NOSPT, b"");
+    let deletes = Req::TcpDelRep { rep: RepId(1) };
+    take(&rt, alloc, &mut world, call(0, 1, deletes));
+    expect_answer(&rt, &world, E_NOSPT, b"");
     Ok(())
 }
 
