@@ -11,11 +11,20 @@ root=$PWD
 work=$(mktemp -d) || exit 1
 trap 'rm -rf "$work"' EXIT
 
+# below CRATE: the crates that it stands on, each at least once.
+below() {
+    local name
+    for name in $(sed -n "s/^$1://p" crates.txt); do
+        echo "$name"
+        below "$name"
+    done
+}
+
 # copied CRATE FOLDER: a copy of the checked-out files, with what checks of the crate and those below it have kept.
 copied() {
     local name
     mkdir "$2" && git ls-files -z | xargs -0 cp -p --parents -t "$2" || return 1
-    for name in "$1" $(sed -n "s/^$1://p" crates.txt); do
+    for name in "$1" $(below "$1" | sort -u); do
         [ ! -d "crates/$name/out" ] || cp -a "crates/$name/out" "$2/crates/$name" || return 1
     done
 }

@@ -78,13 +78,25 @@ in_place _ _ _ = false
 abbrev pub has_room : Draft → ScriptLine → Bool
 has_room d (SecondNode n) = not (unwrap_or n.addr 0 == d.node.addr)
 has_room d (Call request fits) = nat_lt (length d.body) body_limit
-has_room d _ = true
+has_room d Itron = true
+has_room d (Link key) = true
+has_room d (Ticks ticks) = true
+has_room d (FirstNode n) = true
+has_room d (Sem id init max) = true
+has_room d (Task id pri) = true
+has_room d End = true
 
 -- the node has declared the id of this kind before
 abbrev pub is_declared : Draft → ScriptLine → Bool
 is_declared d (Sem id init max) = list_any (is_semaphore (unwrap_or id 0)) d.node.decls
 is_declared d (Task id pri) = list_any (is_task (unwrap_or id 0)) d.node.decls
-is_declared d _ = false
+is_declared d Itron = false
+is_declared d (Link key) = false
+is_declared d (Ticks ticks) = false
+is_declared d (FirstNode n) = false
+is_declared d (SecondNode n) = false
+is_declared d (Call request fits) = false
+is_declared d End = false
 
 -- the cause of the first test that is true
 abbrev pub first_cause : List (Bool × Why) → Option Why

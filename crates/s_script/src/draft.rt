@@ -161,7 +161,13 @@ impl Draft {
         match line {
             ScriptLine::SecondNode(node) => node.addr.unwrap_or(0) != self.node.addr,
             ScriptLine::Call { .. } => self.body.len() < BODY_LIMIT,
-            _ => true,
+            ScriptLine::Itron
+            | ScriptLine::Link { .. }
+            | ScriptLine::Ticks { .. }
+            | ScriptLine::FirstNode(_)
+            | ScriptLine::Sem { .. }
+            | ScriptLine::Task { .. }
+            | ScriptLine::End => true,
         }
     }
 
@@ -175,7 +181,13 @@ impl Draft {
             ScriptLine::Sem { id, .. } => {
                 declares_semaphore(self.node.decls.as_slice(), id.unwrap_or(0))
             }
-            _ => false,
+            ScriptLine::Itron
+            | ScriptLine::Link { .. }
+            | ScriptLine::Ticks { .. }
+            | ScriptLine::FirstNode(_)
+            | ScriptLine::SecondNode(_)
+            | ScriptLine::Call { .. }
+            | ScriptLine::End => false,
         }
     }
 

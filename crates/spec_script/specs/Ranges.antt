@@ -10,7 +10,7 @@ use Rattle.spec_script.specs.declared.decl.Decl.TheVariants as declarations
 use Rattle.spec_script.specs.declared.decl.Line.{Line}
 use Rattle.spec_script.specs.declared.decl.Line.TheVariants as body_lines
 use Rattle.spec_script.specs.declared.script_line.ScriptLine.{ScriptLine}
-use Rattle.spec_script.specs.declared.script_line.ScriptLine.TheVariants.{Link, Ticks, FirstNode, SecondNode, Sem, Task, Call}
+use Rattle.spec_script.specs.declared.script_line.ScriptLine.TheVariants.{Itron, Link, Ticks, FirstNode, SecondNode, Sem, Task, Call, End}
 use Rattle.spec_script.specs.declared.script_line.NodeLine.{NodeLine}
 use Rattle.spec_script.specs.Today.{may_write}
 use Rattle.spec_script.specs.Lines.{first_node, second_node, key_of, lines_of}
@@ -37,7 +37,8 @@ is_in_range (SecondNode n) = is_node_in_range n
 is_in_range (Sem id init max) = within 1 id 16 && (is_at_most init max && within 1 max 65535)
 is_in_range (Task id pri) = within 1 id 16 && within 1 pri 16
 is_in_range (Call request fits) = fits
-is_in_range _ = true
+is_in_range Itron = true
+is_in_range End = true
 
 -- the greatest number of lines of a body
 abbrev pub body_limit : ℕ
