@@ -6,3 +6,6 @@ pub mod Deadlines
 pub mod Rows
 pub mod Outside
 pub mod Opening
+pub mod TaskBlocks
+pub mod PlainTasks
+pub mod TaskRows

@@ -1,12 +1,20 @@
 //! The specification of the kernel: its plain data, and as definitions its state, rows, settling and step.
 #![tactic(auto)]
 
+mod did;
 mod outcome;
+mod reason;
 mod semaphore;
 mod task;
+mod task_block;
+mod task_wait;
 mod wait;
 
+pub use did::Did;
 pub use outcome::{KAns, KEnd};
+pub use reason::{FlagWait, WaitReason, WaitingCall};
 pub use semaphore::Semaphore;
 pub use task::Task;
+pub use task_block::TaskBlock;
+pub use task_wait::TaskWait;
 pub use wait::{Wait, WaitFor};
