@@ -9,3 +9,4 @@ pub mod Opening
 pub mod TaskBlocks
 pub mod PlainTasks
 pub mod TaskRows
+pub mod Waiters

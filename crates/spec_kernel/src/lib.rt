@@ -9,6 +9,7 @@ mod task;
 mod task_block;
 mod task_wait;
 mod wait;
+mod waiter;
 
 pub use did::Did;
 pub use outcome::{KAns, KEnd};
@@ -18,3 +19,4 @@ pub use task::Task;
 pub use task_block::TaskBlock;
 pub use task_wait::TaskWait;
 pub use wait::{Wait, WaitFor};
+pub use waiter::Waiter;
