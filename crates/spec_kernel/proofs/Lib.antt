@@ -7,3 +7,4 @@ pub mod RowCases
 pub mod Settling
 pub mod Timing
 pub mod OutsideWaits
+pub mod TaskHistories

@@ -9,4 +9,5 @@ pub mod Opening
 pub mod TaskBlocks
 pub mod PlainTasks
 pub mod TaskRows
+pub mod TaskOpening
 pub mod Waiters
