@@ -11,3 +11,11 @@ pub mod PlainTasks
 pub mod TaskRows
 pub mod TaskOpening
 pub mod Waiters
+pub mod AnswerBytes
+pub mod ObjectRows
+pub mod SemaphoreBlocks
+pub mod PlainSemaphores
+pub mod SemaphoreRows
+pub mod FlagBlocks
+pub mod PlainFlags
+pub mod FlagRows

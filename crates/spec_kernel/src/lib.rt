@@ -2,9 +2,11 @@
 #![tactic(auto)]
 
 mod did;
+mod flag_block;
 mod outcome;
 mod reason;
 mod semaphore;
+mod semaphore_block;
 mod task;
 mod task_block;
 mod task_wait;
@@ -12,9 +14,11 @@ mod wait;
 mod waiter;
 
 pub use did::Did;
+pub use flag_block::FlagBlock;
 pub use outcome::{KAns, KEnd};
 pub use reason::{FlagWait, WaitReason, WaitingCall};
 pub use semaphore::Semaphore;
+pub use semaphore_block::SemaphoreBlock;
 pub use task::Task;
 pub use task_block::TaskBlock;
 pub use task_wait::TaskWait;
