@@ -19,3 +19,4 @@ pub mod SemaphoreRows
 pub mod FlagBlocks
 pub mod PlainFlags
 pub mod FlagRows
+pub mod DataQueues

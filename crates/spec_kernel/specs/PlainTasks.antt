@@ -1,6 +1,6 @@
 -- The tasks of a kernel as plain lists, and which of them runs (µITRON4.0 section 3.2). Ranks are places: a task that becomes
 -- runnable goes to the end of its list.
-use Rattle.std.specs.Prelude.{ℕ, ◌+◌, Bool, true, false, not, ◌&&◌, List, [], ◌∷◌, ◌++◌, Option, Some, None, is_some, nat_lt, ◌==◌, if◌then◌else◌, filter, slice_set}
+use Rattle.std.specs.Prelude.{ℕ, Bool, true, false, not, ◌&&◌, List, [], ◌∷◌, ◌++◌, Option, Some, None, is_some, nat_lt, ◌==◌, if◌then◌else◌, filter, slice_set}
 use Rattle.it_types.specs.declared.id.TaskId.{TaskId}
 use Rattle.it_types.specs.Callers.{nobody}
 use Rattle.spec_lists.specs.Tables.{get, change}

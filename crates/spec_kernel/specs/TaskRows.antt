@@ -7,11 +7,9 @@ use Rattle.it_types.specs.declared.er.TheConstants.{E_OK, E_PAR, E_ID, E_ILUSE, 
 use Rattle.it_types.specs.declared.timeout.Tmo.{Tmo}
 use Rattle.it_types.specs.declared.context.Ctx.{Ctx}
 use Rattle.it_types.specs.Callers.{is_handler, caller, is_nblk, is_poll}
-use Rattle.spec_lists.specs.Tables.{get}
 use Rattle.spec_lists.specs.Refusal.{first_refusal}
 use Rattle.spec_kernel.specs.declared.did.Did.{Did}
 use Rattle.spec_kernel.specs.declared.task_block.TaskBlock.{TaskBlock}
-use Rattle.spec_kernel.specs.declared.task_wait.TaskWait.{TaskWait}
 use Rattle.spec_kernel.specs.declared.task_wait.TaskWait.TheVariants.{Sleep, Other}
 use Rattle.spec_kernel.specs.PlainKernel.{greatest_id}
 use Rattle.spec_kernel.specs.TaskBlocks.{priority_of, activations_of, wakeups_of, suspensions_of, is_active, is_suspended, is_greatest, dormant, begun, with_priority, one_activation_more, one_activation_less, without_activations, one_wakeup_more, one_wakeup_less, without_wakeups, one_suspension_more, one_suspension_less, without_suspensions}

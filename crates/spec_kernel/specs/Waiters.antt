@@ -3,7 +3,6 @@
 use Rattle.std.specs.Prelude.{ℕ, Bool, false, not, ◌&&◌, ◌==◌, List, [], ◌∷◌, ◌++◌, Option, Some, None, nat_lt, if◌then◌else◌}
 use Rattle.std.specs.List.{list_any}
 use Rattle.it_types.specs.declared.id.TaskId.{TaskId}
-use Rattle.it_types.specs.declared.id.ObjId.{ObjId}
 use Rattle.it_types.specs.declared.timeout.Tmo.{Tmo}
 use Rattle.it_types.specs.Callers.{is_poll}
 use Rattle.spec_lists.specs.First.{take_first, take_least}

@@ -27,6 +27,12 @@ pub enum WaitReason {
     Outside,
 }
 
+impl Default for WaitReason {
+    fn default() -> Self {
+        WaitReason::Delay
+    }
+}
+
 /// A call that waits: its number, its task, why it waits, and its deadline: the tick at which it ends by time, if any.
 #[derive(Clone, Copy, Debug)]
 pub struct WaitingCall {
