@@ -8,3 +8,5 @@ pub mod Settling
 pub mod Timing
 pub mod OutsideWaits
 pub mod TaskHistories
+pub mod SemaphoreHistories
+pub mod FlagHistories
