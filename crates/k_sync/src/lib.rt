@@ -1,0 +1,5 @@
+//! The objects on which tasks of a kernel wait (µITRON4.0 section 4.4): each kind with the tasks that wait there, in tables that
+//! nothing allocates after the opening.
+#![tactic(auto)]
+
+mod waiters;
