@@ -10,3 +10,4 @@ pub mod OutsideWaits
 pub mod TaskHistories
 pub mod SemaphoreHistories
 pub mod FlagHistories
+pub mod NextWaiter

@@ -17,9 +17,10 @@ use Rattle.spec_kernel.specs.declared.reason.WaitReason.{WaitReason}
 use Rattle.spec_kernel.specs.declared.reason.WaitReason.TheVariants as reasons
 use Rattle.spec_kernel.specs.declared.waiter.Waiter.{Waiter}
 use Rattle.spec_kernel.specs.Waiters.{is_in, joined_by}
+use Rattle.spec_kernel.specs.Waiting.{flags_after}
 use Rattle.spec_kernel.specs.ObjectRows.{at_object, urgency_in}
 use Rattle.spec_kernel.specs.FlagBlocks.{takes_many, with_bits, only_bits}
-use Rattle.spec_kernel.specs.PlainFlags.{PlainFlags, is_met, is_by_priority, bytes_of, taken}
+use Rattle.spec_kernel.specs.PlainFlags.{PlainFlags, is_met, is_by_priority, bytes_of}
 
 -- what a call comes to, and the flags after it
 pub record FlagsDone : Type 0 where
@@ -60,7 +61,7 @@ abbrev pub twai_flg_refusals : PlainFlags → FlagWait → Tmo → List (Bool ×
 twai_flg_refusals d w tmo = at_object d.flags w.flag ((is_nblk tmo || (w.bits == 0), E_PAR) ∷ (is_occupied d w, E_ILUSE) ∷ [])
 
 abbrev pub met : PlainFlags → WaitReason → FlagsDone
-met d reason = took (record d { flags = taken reason d.flags }) (bytes_of d.flags reason)
+met d reason = took (record d { flags = flags_after reason d.flags }) (bytes_of d.flags reason)
 
 abbrev pub waiter_for : PlainFlags → WaitReason → TaskId → ℕ → ℕ → Waiter
 waiter_for d reason task pri rank = record { task = task; reason = reason; urgency = urgency_in (is_by_priority d.flags reason) pri; rank = rank }

@@ -20,3 +20,4 @@ pub mod FlagBlocks
 pub mod PlainFlags
 pub mod FlagRows
 pub mod DataQueues
+pub mod Waiting

@@ -1,9 +1,10 @@
 -- The event flags of a kernel and the tasks that wait at them, as plain lists (µITRON4.0 section 4.4.2).
-use Rattle.std.specs.Prelude.{ℕ, Bool, false, List, [], Option, Some, None}
+use Rattle.std.specs.Prelude.{◌≡◌, ℕ, Bool, true, false, List, [], Option, Some, None}
 use Rattle.it_types.specs.declared.id.TaskId.{TaskId}
 use Rattle.it_types.specs.declared.er.Er.{Er}
+use Rattle.it_types.specs.declared.conf.FlgDecl.{FlgDecl}
 use Rattle.it_types.specs.declared.conf.SyncConf.{SyncConf}
-use Rattle.spec_lists.specs.Tables.{get, change, empty_table, filled}
+use Rattle.spec_lists.specs.Tables.{get, empty_table, filled}
 use Rattle.spec_kernel.specs.declared.flag_block.FlagBlock.{FlagBlock}
 use Rattle.spec_kernel.specs.declared.reason.WaitReason.{WaitReason}
 use Rattle.spec_kernel.specs.declared.reason.WaitReason.TheVariants as reasons
@@ -11,12 +12,18 @@ use Rattle.spec_kernel.specs.declared.waiter.Waiter.{Waiter}
 use Rattle.spec_kernel.specs.PlainKernel.{greatest_id}
 use Rattle.spec_kernel.specs.Waiters.{left_by, next_waiter}
 use Rattle.spec_kernel.specs.Waiters.{reprioritised as reprioritised_in}
+use Rattle.spec_kernel.specs.Opening.{are_new_ids}
 use Rattle.spec_kernel.specs.ObjectRows.{told}
-use Rattle.spec_kernel.specs.FlagBlocks.{pattern_of, is_ordered, holds, pattern_bytes, released, flag_id, flag_declared}
+use Rattle.spec_kernel.specs.Waiting.{flags_after}
+use Rattle.spec_kernel.specs.FlagBlocks.{pattern_of, is_ordered, holds, pattern_bytes, flag_id, flag_declared}
 
 pub record PlainFlags : Type 0 where
   pub flags : List (Option FlagBlock)  -- by id
   pub waiters : List Waiter  -- in the order of their ranks
+
+-- what can be declared: each id once and in its range
+pub record AreDeclarable (flags : List FlgDecl) : Type 0 where
+  pub ids : are_new_ids flag_id flag_declared (empty_table greatest_id) flags ≡ true
 
 -- at the start nobody waits
 abbrev pub opened : SyncConf → PlainFlags
@@ -37,11 +44,6 @@ abbrev pub bytes_of : List (Option FlagBlock) → WaitReason → List ℕ
 bytes_of flags (reasons.Flag w) = pattern_bytes (get flags w.flag.0)
 bytes_of flags _ = []
 
--- the flags after a task that is met has taken what it waited for
-abbrev pub taken : WaitReason → List (Option FlagBlock) → List (Option FlagBlock)
-taken (reasons.Flag w) flags = change flags w.flag.0 released
-taken _ flags = flags
-
 -- ---- whose wait ends next
 
 abbrev pub next_freed : PlainFlags → Option (Waiter × List Waiter)
@@ -52,7 +54,7 @@ next_ready d = told (bytes_of d.flags) (next_freed d)
 
 abbrev pub without : PlainFlags → Option (Waiter × List Waiter) → PlainFlags
 without d None = d
-without d (Some found) = record { flags = taken found.0.reason d.flags; waiters = found.1 }
+without d (Some found) = record { flags = flags_after found.0.reason d.flags; waiters = found.1 }
 
 -- the state after the end of that wait
 abbrev pub freed : PlainFlags → PlainFlags

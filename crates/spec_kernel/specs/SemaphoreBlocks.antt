@@ -1,5 +1,5 @@
 -- What the kernel keeps of one semaphore, and its changes (µITRON4.0 section 4.4.1).
-use Rattle.std.specs.Prelude.{ℕ, ◌+◌, ◌-◌, Bool, true, false, Option, Some, None, nat_le, nat_lt}
+use Rattle.std.specs.Prelude.{ℕ, ◌+◌, ◌-◌, Bool, ◌&&◌, true, false, Option, Some, None, nat_le, nat_lt}
 use Rattle.it_types.specs.declared.conf.SemDecl.{SemDecl}
 use Rattle.spec_kernel.specs.declared.semaphore_block.SemaphoreBlock.{SemaphoreBlock}
 
@@ -37,3 +37,7 @@ semaphore_id d = d.id
 
 abbrev pub semaphore_declared : SemDecl → SemaphoreBlock
 semaphore_declared d = record { by_priority = d.pri; count = d.init; max = d.max }
+
+-- the ranges of a declaration
+abbrev pub keeps_ranges : SemDecl → Bool
+keeps_ranges d = nat_le d.init d.max && (nat_le 1 d.max && nat_le d.max 65535)

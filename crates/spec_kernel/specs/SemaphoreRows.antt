@@ -16,9 +16,10 @@ use Rattle.spec_kernel.specs.declared.reason.WaitReason.{WaitReason}
 use Rattle.spec_kernel.specs.declared.reason.WaitReason.TheVariants as reasons
 use Rattle.spec_kernel.specs.declared.waiter.Waiter.{Waiter}
 use Rattle.spec_kernel.specs.Waiters.{is_in, joined_by}
+use Rattle.spec_kernel.specs.Waiting.{semaphores_after}
 use Rattle.spec_kernel.specs.ObjectRows.{at_object, urgency_in}
 use Rattle.spec_kernel.specs.SemaphoreBlocks.{is_full, one_more}
-use Rattle.spec_kernel.specs.PlainSemaphores.{PlainSemaphores, is_met, is_by_priority, bytes_of, taken}
+use Rattle.spec_kernel.specs.PlainSemaphores.{PlainSemaphores, is_met, is_by_priority, bytes_of}
 
 -- what a call comes to, and the semaphores after it
 pub record SemaphoresDone : Type 0 where
@@ -53,7 +54,7 @@ abbrev pub twai_sem_refusals : PlainSemaphores → ObjId → Tmo → List (Bool 
 twai_sem_refusals d s tmo = at_object d.semaphores s ((is_nblk tmo, E_PAR) ∷ [])
 
 abbrev pub met : PlainSemaphores → WaitReason → SemaphoresDone
-met d reason = took (record d { semaphores = taken reason d.semaphores }) (bytes_of reason)
+met d reason = took (record d { semaphores = semaphores_after reason d.semaphores }) (bytes_of reason)
 
 abbrev pub waiter_for : PlainSemaphores → WaitReason → TaskId → ℕ → ℕ → Waiter
 waiter_for d reason task pri rank = record { task = task; reason = reason; urgency = urgency_in (is_by_priority d.semaphores reason) pri; rank = rank }
