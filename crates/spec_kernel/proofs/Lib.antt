@@ -11,3 +11,4 @@ pub mod TaskHistories
 pub mod SemaphoreHistories
 pub mod FlagHistories
 pub mod NextWaiter
+pub mod QueueHistories

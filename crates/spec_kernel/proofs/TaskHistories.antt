@@ -1,6 +1,6 @@
 -- Worked histories of the calls on tasks, checked by computation.
 use Rattle.std.proofs.Common.{◌≡◌, ℕ, Bool, true, false, List, [], ◌∷◌, Option, Some, None, refl}
-use Rattle.std.specs.Prelude.{ℤ, pos, negsuc}
+use Rattle.std.specs.Prelude.{pos}
 use Rattle.it_types.specs.declared.id.TaskId.{TaskId}
 use Rattle.it_types.specs.declared.er.Er.{Er}
 use Rattle.it_types.specs.declared.er.TheConstants.{E_OK, E_PAR, E_ID, E_ILUSE, E_OBJ, E_NOEXS, E_QOVR}
@@ -221,7 +221,7 @@ wrong_ids = refl
 
 ids_before_all : codes
     (act_tsk some_tasks one (the_task 17) ∷ can_act some_tasks one (the_task 4) ∷ ter_tsk some_tasks one (the_task 17) ∷ chg_pri some_tasks one (the_task 17) 17 ∷ get_pri some_tasks one (the_task 4) ∷ wup_tsk some_tasks one (the_task 17)
-      ∷ can_wup some_tasks one (the_task 4) ∷ rel_wai some_tasks one (the_task 17) ∷ sus_tsk some_tasks one (the_task 4) ∷ rsm_tsk some_tasks one (the_task 17) ∷ frsm_tsk some_tasks one (the_task 4) ∷ [])
+    ∷ can_wup some_tasks one (the_task 4) ∷ rel_wai some_tasks one (the_task 17) ∷ sus_tsk some_tasks one (the_task 4) ∷ rsm_tsk some_tasks one (the_task 17) ∷ frsm_tsk some_tasks one (the_task 4) ∷ [])
     ≡ E_ID ∷ E_NOEXS ∷ E_ID ∷ E_ID ∷ E_NOEXS ∷ E_ID ∷ E_NOEXS ∷ E_ID ∷ E_NOEXS ∷ E_ID ∷ E_NOEXS ∷ []
 ids_before_all = refl
 

@@ -21,3 +21,5 @@ pub mod PlainFlags
 pub mod FlagRows
 pub mod DataQueues
 pub mod Waiting
+pub mod PlainQueues
+pub mod QueueRows

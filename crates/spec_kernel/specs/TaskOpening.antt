@@ -1,6 +1,6 @@
 -- The tasks of a kernel at its opening (µITRON4.0 section 4.1): those that are active from the start are runnable in the order of
 -- their declarations.
-use Rattle.std.specs.Prelude.{ℕ, not, List, [], ◌∷◌, Some, slice_set}
+use Rattle.std.specs.Prelude.{not, List, [], ◌∷◌, Some, slice_set}
 use Rattle.it_types.specs.declared.conf.TaskDecl.{TaskDecl}
 use Rattle.spec_lists.specs.Tables.{empty_table}
 use Rattle.spec_kernel.specs.declared.task_block.TaskBlock.{TaskBlock}

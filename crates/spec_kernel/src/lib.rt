@@ -3,6 +3,7 @@
 
 mod did;
 mod flag_block;
+mod handed;
 mod outcome;
 mod reason;
 mod semaphore;
@@ -15,6 +16,7 @@ mod waiter;
 
 pub use did::Did;
 pub use flag_block::FlagBlock;
+pub use handed::Handed;
 pub use outcome::{KAns, KEnd};
 pub use reason::{FlagWait, WaitReason, WaitingCall};
 pub use semaphore::Semaphore;
