@@ -1,3 +1,4 @@
 pub mod Found
 pub mod Apart
 pub mod Searching
+pub mod Telling

@@ -1,6 +1,6 @@
 -- What the objects of one kind keep of the tasks that wait there: none waits twice, and each has an id of a task (µITRON4.0
 -- sections 2.1, ID numbers, and 4.4).
-use Rattle.std.specs.Prelude.{◌≡◌, ℕ, ◌≤◌, false, List, Option, Some, None}
+use Rattle.std.specs.Prelude.{◌≡◌, ℕ, ◌≤◌, Bool, false, List, Option, Some, None}
 use Rattle.std.specs.List.{list_any}
 use Rattle.it_types.specs.declared.id.TaskId.{TaskId}
 use Rattle.spec_lists.specs.Counting.{times}
@@ -31,3 +31,8 @@ paired (Some w) ws = Some (w, ws)
 abbrev pub reason_of : Option (Waiter × List Waiter) → Option WaitReason
 reason_of None = None
 reason_of (Some found) = Some found.0.reason
+
+-- the one waits in a queue by priority that was found
+abbrev pub is_ordered : (WaitReason → Bool) → Option WaitReason → Bool
+is_ordered by_priority None = false
+is_ordered by_priority (Some reason) = by_priority reason

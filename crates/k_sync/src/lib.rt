@@ -2,4 +2,5 @@
 //! nothing allocates after the opening.
 #![tactic(auto)]
 
+mod next;
 mod waiters;
