@@ -1,5 +1,5 @@
 -- One data queue, and its changes (µITRON4.0 section 4.4.3).
-use Rattle.std.specs.Prelude.{ℕ, Bool, false, List, [], ◌∷◌, ◌++◌, length, Option, Some, None, nat_lt, ◌==◌, if◌then◌else◌}
+use Rattle.std.specs.Prelude.{ℕ, Bool, false, List, [], ◌∷◌, ◌++◌, length, Option, Some, None, nat_le, nat_lt, ◌==◌, if◌then◌else◌}
 use Rattle.it_types.specs.declared.conf.DtqDecl.{DtqDecl}
 use Rattle.spec_kernel.specs.AnswerBytes.{four_bytes}
 
@@ -14,6 +14,10 @@ queue_id d = d.id
 -- at the start it is empty
 abbrev pub queue_declared : DtqDecl → DataQueue
 queue_declared d = record { by_priority = d.pri; capacity = d.cap; items = [] }
+
+-- it holds at most 1,024 items
+abbrev pub keeps_capacity : DtqDecl → Bool
+keeps_capacity d = nat_le d.cap 1024
 
 abbrev pub items_of : Option DataQueue → List ℕ
 items_of None = []

@@ -1,10 +1,12 @@
 -- The data queues of a kernel and the tasks that wait at them, as plain lists (µITRON4.0 section 4.4.3).
-use Rattle.std.specs.Prelude.{ℕ, Bool, false, List, [], Option, Some, None}
+use Rattle.std.specs.Prelude.{◌≡◌, ℕ, Bool, true, false, List, [], Option, Some, None}
+use Rattle.std.specs.List.{list_all}
 use Rattle.it_types.specs.declared.id.TaskId.{TaskId}
 use Rattle.it_types.specs.declared.er.Er.{Er}
 use Rattle.it_types.specs.declared.er.TheConstants.{E_OK}
+use Rattle.it_types.specs.declared.conf.DtqDecl.{DtqDecl}
 use Rattle.it_types.specs.declared.conf.SyncConf.{SyncConf}
-use Rattle.spec_lists.specs.Tables.{get, change, empty_table, filled}
+use Rattle.spec_lists.specs.Tables.{get, empty_table, filled}
 use Rattle.spec_kernel.specs.declared.handed.Handed.{Handed}
 use Rattle.spec_kernel.specs.declared.reason.WaitReason.{WaitReason}
 use Rattle.spec_kernel.specs.declared.reason.WaitReason.TheVariants as reasons
@@ -13,13 +15,20 @@ use Rattle.spec_kernel.specs.PlainKernel.{greatest_id}
 use Rattle.spec_kernel.specs.AnswerBytes.{four_bytes}
 use Rattle.spec_kernel.specs.Waiters.{left_by, next_waiter}
 use Rattle.spec_kernel.specs.Waiters.{reprioritised as reprioritised_in}
+use Rattle.spec_kernel.specs.Opening.{are_new_ids}
 use Rattle.spec_kernel.specs.ObjectRows.{told}
-use Rattle.spec_kernel.specs.DataQueues.{DataQueue, queue_id, queue_declared, sends_by_priority, has_room, has_item, oldest_bytes, with_item, item_taken}
+use Rattle.spec_kernel.specs.Waiting.{queues_after}
+use Rattle.spec_kernel.specs.DataQueues.{DataQueue, queue_id, queue_declared, sends_by_priority, has_room, has_item, oldest_bytes, keeps_capacity}
 
 pub record PlainQueues : Type 0 where
   pub queues : List (Option DataQueue)  -- by id
   pub waiters : List Waiter  -- in the order of their ranks
   pub handed : Option Handed  -- the task whose call the last one on a queue without capacity has ended, until it is freed
+
+-- what can be declared: each id once and in its range, and all numbers in theirs
+pub record AreDeclarable (dtqs : List DtqDecl) : Type 0 where
+  pub ids : are_new_ids queue_id queue_declared (empty_table greatest_id) dtqs ≡ true
+  pub ranges : list_all keeps_capacity dtqs ≡ true
 
 -- at the start nobody waits
 abbrev pub opened : SyncConf → PlainQueues
@@ -43,12 +52,6 @@ abbrev pub bytes_of : List (Option DataQueue) → WaitReason → List ℕ
 bytes_of queues (reasons.Receive q) = oldest_bytes (get queues q.0)
 bytes_of queues _ = []
 
--- the queues after a task that is met has given its item, or taken one
-abbrev pub taken : WaitReason → List (Option DataQueue) → List (Option DataQueue)
-taken (reasons.Send q item) queues = change queues q.0 (with_item item)
-taken (reasons.Receive q) queues = change queues q.0 item_taken
-taken _ queues = queues
-
 -- ---- whose wait ends next
 
 abbrev pub next_freed : PlainQueues → Option (Waiter × List Waiter)
@@ -69,7 +72,7 @@ next_ready d = next_ready_after d d.handed
 
 abbrev pub without : PlainQueues → Option (Waiter × List Waiter) → PlainQueues
 without d None = d
-without d (Some found) = record d { queues = taken found.0.reason d.queues; waiters = found.1 }
+without d (Some found) = record d { queues = queues_after found.0.reason d.queues; waiters = found.1 }
 
 abbrev pub freed_after : PlainQueues → Option Handed → PlainQueues
 freed_after d None = without d (next_freed d)

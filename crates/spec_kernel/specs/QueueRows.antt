@@ -18,8 +18,9 @@ use Rattle.spec_kernel.specs.declared.waiter.Waiter.{Waiter}
 use Rattle.spec_kernel.specs.Waiters.{is_in, first_in, joined_by}
 use Rattle.spec_kernel.specs.AnswerBytes.{four_bytes}
 use Rattle.spec_kernel.specs.ObjectRows.{at_object, urgency_in}
+use Rattle.spec_kernel.specs.Waiting.{queues_after}
 use Rattle.spec_kernel.specs.DataQueues.{hands_over, with_forced_item}
-use Rattle.spec_kernel.specs.PlainQueues.{PlainQueues, is_met, is_by_priority, bytes_of, taken}
+use Rattle.spec_kernel.specs.PlainQueues.{PlainQueues, is_met, is_by_priority, bytes_of}
 
 -- what a call comes to, and the data queues after it
 pub record QueuesDone : Type 0 where
@@ -40,7 +41,7 @@ refused_or tests d done = unless_refused (first_refusal tests) d done
 -- ---- waiting, and the other side
 
 abbrev pub met : PlainQueues → WaitReason → QueuesDone
-met d reason = took (record d { queues = taken reason d.queues }) (bytes_of d.queues reason)
+met d reason = took (record d { queues = queues_after reason d.queues }) (bytes_of d.queues reason)
 
 abbrev pub waiter_for : PlainQueues → WaitReason → TaskId → ℕ → ℕ → Waiter
 waiter_for d reason task pri rank = record { task = task; reason = reason; urgency = urgency_in (is_by_priority d.queues reason) pri; rank = rank }
