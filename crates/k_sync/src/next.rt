@@ -4,14 +4,29 @@ ghost use Rattle.std.specs.Prelude.{◌≡◌, ◌&&◌, ℕ, Bool, List, nat_lt
 ghost use Rattle.std.specs.List.{list_any, position};
 ghost use Rattle.spec_kernel.specs.declared.reason.WaitReason.{WaitReason as AWaitReason};
 ghost use Rattle.spec_kernel.specs.Waiters.{comes_next, is_in, is_task, next_waiter, reprioritised};
-ghost use Rattle.spec_kernel.specs.ObjectRows.{told};
+ghost use Rattle.spec_kernel.specs.ObjectRows.{told, urgency_in};
+ghost use Rattle.it_types.specs.Table.{is_no_id};
 ghost use Rattle.k_sync.specs.Waiting.{AreApart, is_ordered, reason_of};
 ghost use Rattle.spec_lists.specs.First.{take_first};
 
 use crate::waiters::{self, MAX_WAITERS, is_same_queue, reason_of, waiter_at};
 use arrayvec::ArrayVec;
-use it_types::{E_OK, Er, Small, TaskId};
+use it_types::{E_OK, Er, GREATEST_ID, Small, TaskId};
 use spec_kernel::{WaitReason, Waiter};
+
+/// The id is none of an object.
+pub(crate) fn is_wrong_id(id: u32) -> bool
+    ensures { result ≡ is_no_id 16 id }
+{
+    id == 0 || id > GREATEST_ID
+}
+
+/// The priority of a task that counts in a queue.
+pub(crate) fn urgency_in(by_priority: bool, pri: u32) -> u32
+    ensures { result ≡ urgency_in by_priority pri }
+{
+    if by_priority { pri } else { 0 }
+}
 
 /// The objects of one kind, at which tasks wait.
 pub(crate) trait Objects {
