@@ -2,3 +2,4 @@ pub mod Found
 pub mod Apart
 pub mod Searching
 pub mod Telling
+pub mod Declaring

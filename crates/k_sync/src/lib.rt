@@ -3,4 +3,5 @@
 #![tactic(auto)]
 
 mod next;
+mod sem_table;
 mod waiters;
