@@ -3,3 +3,4 @@ pub mod Apart
 pub mod Searching
 pub mod Telling
 pub mod Declaring
+pub mod AtQueues

@@ -2,6 +2,15 @@
 //! nothing allocates after the opening.
 #![tactic(auto)]
 
+mod dtq_calls;
+mod dtq_ends;
+mod dtqs;
 mod next;
 mod sem_table;
+mod queue;
+mod queues;
 mod waiters;
+
+pub use dtqs::Dtqs;
+#[doc(hidden)]
+pub use queue::Queue;
