@@ -70,8 +70,5 @@ without_wakeups t = record t { wakeups = 0 }
 abbrev pub one_suspension_more : TaskBlock → TaskBlock
 one_suspension_more t = record t { suspensions = one_more t.suspensions }
 
-abbrev pub one_suspension_less : TaskBlock → TaskBlock
-one_suspension_less t = record t { suspensions = t.suspensions - 1 }
-
-abbrev pub without_suspensions : TaskBlock → TaskBlock
-without_suspensions t = record t { suspensions = 0 }
+abbrev pub with_suspensions : ℕ → TaskBlock → TaskBlock
+with_suspensions n t = record t { suspensions = n }

@@ -1,6 +1,6 @@
 -- The calls on tasks (µITRON4.0 sections 4.1 and 4.2), but for the test of the context in which each is made: for each the tests
 -- that refuse it, in order, and what it changes where none holds. The order of the tests is this project's own.
-use Rattle.std.specs.Prelude.{ℕ, Bool, true, false, not, ◌&&◌, ◌||◌, ◌==◌, List, [], ◌∷◌, Option, Some, None, is_none, nat_lt, if◌then◌else◌, pos, slice_set}
+use Rattle.std.specs.Prelude.{ℕ, ◌-◌, Bool, true, false, not, ◌&&◌, ◌||◌, ◌==◌, List, [], ◌∷◌, Option, Some, None, is_none, nat_lt, if◌then◌else◌, pos, slice_set}
 use Rattle.it_types.specs.declared.id.TaskId.{TaskId}
 use Rattle.it_types.specs.declared.er.Er.{Er}
 use Rattle.it_types.specs.declared.er.TheConstants.{E_OK, E_PAR, E_ID, E_ILUSE, E_OBJ, E_NOEXS, E_QOVR}
@@ -12,7 +12,7 @@ use Rattle.spec_kernel.specs.declared.did.Did.{Did}
 use Rattle.spec_kernel.specs.declared.task_block.TaskBlock.{TaskBlock}
 use Rattle.spec_kernel.specs.declared.task_wait.TaskWait.TheVariants.{Sleep, Other}
 use Rattle.spec_kernel.specs.PlainKernel.{greatest_id}
-use Rattle.spec_kernel.specs.TaskBlocks.{priority_of, activations_of, wakeups_of, suspensions_of, is_active, is_suspended, is_greatest, dormant, begun, with_priority, one_activation_more, one_activation_less, without_activations, one_wakeup_more, one_wakeup_less, without_wakeups, one_suspension_more, one_suspension_less, without_suspensions}
+use Rattle.spec_kernel.specs.TaskBlocks.{priority_of, activations_of, wakeups_of, suspensions_of, is_active, is_suspended, is_greatest, dormant, begun, with_priority, one_activation_more, one_activation_less, without_activations, one_wakeup_more, one_wakeup_less, without_wakeups, one_suspension_more, with_suspensions}
 use Rattle.spec_kernel.specs.PlainTasks.{PlainTasks, block_of, is_waiting, is_asleep, with_task, running, is_same, leaving, joining, joining_unless, last_in_order, waiting, released}
 
 -- what a call comes to, and the tasks after it
@@ -20,20 +20,26 @@ pub record TaskDone : Type 0 where
   pub tasks : PlainTasks
   pub did : Did
 
-abbrev pub answered : PlainTasks → Er → TaskDone
-answered d code = record { tasks = d; did = record { code = code; value = None; wait = false; freed = None; gone = None; begun = None } }
+-- the call has this code, and nothing else is told
+abbrev pub with_code : Er → Did
+with_code code = record { code = code; value = None; wait = false; freed = None; gone = None; begun = None }
 
--- with a number in its bytes
-abbrev pub told : PlainTasks → ℕ → TaskDone
-told d n = let done = answered d E_OK in record done { did = record done.did { value = Some n } }
+abbrev pub with_value : ℕ → Did
+with_value n = record (with_code E_OK) { value = Some n }
 
 -- the caller waits, but for a poll
-abbrev pub must_wait : PlainTasks → TaskDone
-must_wait d = let done = answered d E_OK in record done { did = record done.did { wait = true } }
+abbrev pub with_wait : Did
+with_wait = record (with_code E_OK) { wait = true }
 
 -- the call of a task ends by it, if there is one
-abbrev pub freeing : PlainTasks → Option TaskId → TaskDone
-freeing d freed = let done = answered d E_OK in record done { did = record done.did { freed = freed } }
+abbrev pub with_freed : Option TaskId → Did
+with_freed freed = record (with_code E_OK) { freed = freed }
+
+abbrev pub with_begun : TaskId → Did
+with_begun t = record (with_code E_OK) { begun = Some t }
+
+abbrev pub answered : PlainTasks → Er → TaskDone
+answered d code = record { tasks = d; did = with_code code }
 
 abbrev pub unless_refused : Option Er → PlainTasks → TaskDone → TaskDone
 unless_refused (Some code) d done = answered d code
@@ -61,7 +67,7 @@ abbrev pub begun_anew : PlainTasks → TaskId → PlainTasks
 begun_anew d t = joining (with_task d t begun) t
 
 abbrev pub beginning : PlainTasks → TaskId → TaskDone
-beginning d t = let done = answered (begun_anew d t) E_OK in record done { did = record done.did { begun = Some t } }
+beginning d t = record { tasks = begun_anew d t; did = with_begun t }
 
 -- the task is dormant, and waits no longer
 abbrev pub laid_down : PlainTasks → TaskId → PlainTasks
@@ -81,7 +87,7 @@ after_end d t = if has_activation d t then begun_anew (with_task (laid_down d t)
 abbrev pub ending : PlainTasks → TaskId → TaskDone
 ending d t = record {
   tasks = after_end d t;
-  did = record { code = E_OK; value = None; wait = false; freed = only_if (is_waiting d t) t; gone = Some t; begun = only_if (has_activation d t) t };
+  did = record (with_code E_OK) { freed = only_if (is_waiting d t) t; gone = Some t; begun = only_if (has_activation d t) t };
 }
 
 -- a dormant task begins; of an active one the activation is kept
@@ -132,7 +138,7 @@ abbrev pub get_pri_refusals : PlainTasks → Ctx → TaskId → List (Bool × Er
 get_pri_refusals d ctx t = at_task d ctx t (λ o. (not (is_active o), E_OBJ) ∷ [])
 
 abbrev pub get_pri : PlainTasks → Ctx → TaskId → TaskDone
-get_pri d ctx t = refused_or (get_pri_refusals d ctx t) d (told d (priority_of (block_of d (named ctx t))))
+get_pri d ctx t = refused_or (get_pri_refusals d ctx t) d (record { tasks = d; did = with_value (priority_of (block_of d (named ctx t))) })
 
 -- of the tasks of one priority, 0 being the caller's, the first in order is the last from now on
 abbrev pub rot_rdq_refusals : Ctx → ℕ → List (Bool × Er)
@@ -148,7 +154,7 @@ abbrev pub rot_rdq : PlainTasks → Ctx → ℕ → TaskDone
 rot_rdq d ctx p = refused_or (rot_rdq_refusals ctx p) d (answered (last_in_order (has_priority d (rotated_priority d ctx p)) d) E_OK)
 
 abbrev pub get_tid : PlainTasks → TaskDone
-get_tid d = told d (running d).0
+get_tid d = record { tasks = d; did = with_value (running d).0 }
 
 -- ---- sleeping and waiting (section 4.2)
 
@@ -158,7 +164,7 @@ tslp_tsk_refusals tmo = (is_nblk tmo, E_PAR) ∷ []
 
 abbrev pub sleeping : PlainTasks → TaskId → Tmo → TaskDone
 sleeping d t tmo =
-    if nat_lt 0 (wakeups_of (block_of d t)) then answered (with_task d t one_wakeup_less) E_OK else must_wait (if is_poll tmo then d else waiting d t Sleep)
+    if nat_lt 0 (wakeups_of (block_of d t)) then answered (with_task d t one_wakeup_less) E_OK else record { tasks = if is_poll tmo then d else waiting d t Sleep; did = with_wait }
 
 abbrev pub tslp_tsk : PlainTasks → Ctx → Tmo → TaskDone
 tslp_tsk d ctx tmo = refused_or (tslp_tsk_refusals tmo) d (sleeping d (caller ctx) tmo)
@@ -168,7 +174,7 @@ abbrev pub wup_tsk_refusals : PlainTasks → Ctx → TaskId → List (Bool × Er
 wup_tsk_refusals d ctx t = at_task d ctx t (λ o. (not (is_active o), E_OBJ) ∷ (not (is_asleep d (named ctx t)) && is_greatest (wakeups_of o), E_QOVR) ∷ [])
 
 abbrev pub waking : PlainTasks → TaskId → TaskDone
-waking d t = freeing (with_task d t one_wakeup_more) (only_if (is_asleep d t) t)
+waking d t = record { tasks = with_task d t one_wakeup_more; did = with_freed (only_if (is_asleep d t) t) }
 
 abbrev pub wup_tsk : PlainTasks → Ctx → TaskId → TaskDone
 wup_tsk d ctx t = refused_or (wup_tsk_refusals d ctx t) d (waking d (named ctx t))
@@ -188,10 +194,10 @@ abbrev pub rel_wai_refusals : PlainTasks → Ctx → TaskId → List (Bool × Er
 rel_wai_refusals d ctx t = at_task d ctx t (λ o. (not (is_waiting d (named ctx t)), E_OBJ) ∷ [])
 
 abbrev pub rel_wai : PlainTasks → Ctx → TaskId → TaskDone
-rel_wai d ctx t = refused_or (rel_wai_refusals d ctx t) d (freeing (released d (named ctx t)) (Some (named ctx t)))
+rel_wai d ctx t = refused_or (rel_wai_refusals d ctx t) d (record { tasks = released d (named ctx t); did = with_freed (Some (named ctx t)) })
 
 abbrev pub dly_tsk : PlainTasks → Ctx → TaskDone
-dly_tsk d ctx = must_wait (waiting d (caller ctx) Other)
+dly_tsk d ctx = record { tasks = waiting d (caller ctx) Other; did = with_wait }
 
 -- ---- suspension (section 4.2)
 
@@ -204,12 +210,12 @@ sus_tsk d ctx t = refused_or (sus_tsk_refusals d ctx t) d (answered (leaving (wi
 abbrev pub rsm_tsk_refusals : PlainTasks → Ctx → TaskId → List (Bool × Er)
 rsm_tsk_refusals d ctx t = at_task d ctx t (λ o. (not (is_active o && is_suspended o), E_OBJ) ∷ [])
 
--- fewer suspensions are kept of the task: with none left, and nothing that it waits for, it is runnable, the last in order
-abbrev pub resumed : PlainTasks → TaskId → (TaskBlock → TaskBlock) → TaskDone
-resumed d t fewer = let after = with_task d t fewer in answered (joining_unless (is_suspended (block_of after t) || is_waiting d t) after t) E_OK
+-- so many suspensions are left: with none, and nothing that it waits for, the task is runnable, the last in order
+abbrev pub resumed : PlainTasks → TaskId → ℕ → PlainTasks
+resumed d t left = joining_unless (nat_lt 0 left || is_waiting d t) (with_task d t (with_suspensions left)) t
 
 abbrev pub rsm_tsk : PlainTasks → Ctx → TaskId → TaskDone
-rsm_tsk d ctx t = refused_or (rsm_tsk_refusals d ctx t) d (resumed d (named ctx t) one_suspension_less)
+rsm_tsk d ctx t = refused_or (rsm_tsk_refusals d ctx t) d (answered (resumed d (named ctx t) (suspensions_of (block_of d (named ctx t)) - 1)) E_OK)
 
 abbrev pub frsm_tsk : PlainTasks → Ctx → TaskId → TaskDone
-frsm_tsk d ctx t = refused_or (rsm_tsk_refusals d ctx t) d (resumed d (named ctx t) without_suspensions)
+frsm_tsk d ctx t = refused_or (rsm_tsk_refusals d ctx t) d (answered (resumed d (named ctx t) 0) E_OK)
