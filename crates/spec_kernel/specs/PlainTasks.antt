@@ -56,6 +56,9 @@ running d = first_of d.tasks d.runnable
 abbrev pub is_same : TaskId → TaskId → Bool
 is_same task t = t.0 == task.0
 
+abbrev pub has_priority : List (Option TaskBlock) → ℕ → TaskId → Bool
+has_priority tasks p t = priority_of (get tasks t.0) == p
+
 -- the runnable tasks without one of them
 abbrev pub without : TaskId → List TaskId → List TaskId
 without task runnable = filter (λ t. not (t.0 == task.0)) runnable

@@ -13,7 +13,7 @@ use Rattle.spec_kernel.specs.declared.task_block.TaskBlock.{TaskBlock}
 use Rattle.spec_kernel.specs.declared.task_wait.TaskWait.TheVariants.{Sleep, Other}
 use Rattle.spec_kernel.specs.PlainKernel.{greatest_id}
 use Rattle.spec_kernel.specs.TaskBlocks.{priority_of, activations_of, wakeups_of, suspensions_of, is_active, is_suspended, is_greatest, dormant, begun, with_priority, one_activation_more, one_activation_less, without_activations, one_wakeup_more, one_wakeup_less, without_wakeups, one_suspension_more, with_suspensions}
-use Rattle.spec_kernel.specs.PlainTasks.{PlainTasks, block_of, is_waiting, is_asleep, with_task, running, is_same, leaving, joining, joining_unless, last_in_order, waiting, released}
+use Rattle.spec_kernel.specs.PlainTasks.{PlainTasks, block_of, is_waiting, is_asleep, with_task, running, is_same, leaving, joining, joining_unless, has_priority, last_in_order, waiting, released}
 
 -- what a call comes to, and the tasks after it
 pub record TaskDone : Type 0 where
@@ -147,11 +147,8 @@ rot_rdq_refusals ctx p = (nat_lt greatest_priority p || ((p == 0) && is_handler 
 abbrev pub rotated_priority : PlainTasks → Ctx → ℕ → ℕ
 rotated_priority d ctx p = if p == 0 then priority_of (block_of d (caller ctx)) else p
 
-abbrev pub has_priority : PlainTasks → ℕ → TaskId → Bool
-has_priority d p t = priority_of (block_of d t) == p
-
 abbrev pub rot_rdq : PlainTasks → Ctx → ℕ → TaskDone
-rot_rdq d ctx p = refused_or (rot_rdq_refusals ctx p) d (answered (last_in_order (has_priority d (rotated_priority d ctx p)) d) E_OK)
+rot_rdq d ctx p = refused_or (rot_rdq_refusals ctx p) d (answered (last_in_order (has_priority d.tasks (rotated_priority d ctx p)) d) E_OK)
 
 abbrev pub get_tid : PlainTasks → TaskDone
 get_tid d = record { tasks = d; did = with_value (running d).0 }
