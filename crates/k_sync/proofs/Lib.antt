@@ -4,3 +4,4 @@ pub mod Searching
 pub mod Telling
 pub mod Declaring
 pub mod AtQueues
+pub mod SemaphoreLaws

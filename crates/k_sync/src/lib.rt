@@ -6,11 +6,13 @@ mod dtq_calls;
 mod dtq_ends;
 mod dtqs;
 mod next;
-mod sem_table;
 mod queue;
 mod queues;
+mod sem_table;
+mod sems;
 mod waiters;
 
 pub use dtqs::Dtqs;
 #[doc(hidden)]
 pub use queue::Queue;
+pub use sems::Sems;
