@@ -1,7 +1,6 @@
 ghost use Rattle.std.specs.Prelude.{◌≡◌, None, false, true};
 ghost use Rattle.std.specs.List.{list_any};
 ghost use Rattle.it_types.specs.Callers.{is_poll};
-ghost use Rattle.it_types.specs.Table.{is_no_id};
 ghost use Rattle.spec_lists.specs.Refusal.{first_refusal};
 ghost use Rattle.spec_lists.specs.Tables.{get};
 ghost use Rattle.spec_kernel.specs.AnswerBytes.{four_bytes};
@@ -11,21 +10,13 @@ ghost use Rattle.k_sync.specs.Waiting.{MayWait, paired};
 
 use crate::Dtqs;
 use crate::dtq_ends::take_effect;
-use crate::next::Objects;
+use crate::next::{Objects, is_wrong_id, urgency_in};
 use crate::queues::{force_item, hands_over, queue_at};
 use crate::waiters::{first_in, is_awaited, join, take_out};
 use it_types::{
-    E_ID, E_ILUSE, E_NOEXS, E_OK, E_PAR, Er, GREATEST_ID, ObjId, Small, Synced, TaskId, Tmo,
-    first_refusal,
+    E_ID, E_ILUSE, E_NOEXS, E_OK, E_PAR, Er, ObjId, Small, Synced, TaskId, Tmo, first_refusal,
 };
 use spec_kernel::{Handed, WaitReason, Waiter};
-
-/// The id is none of an object.
-fn is_wrong_id(id: u32) -> bool
-    ensures { result ≡ is_no_id 16 id }
-{
-    id == 0 || id > GREATEST_ID
-}
 
 /// The bytes of the item that a sender waits with.
 fn item_bytes(reason: WaitReason) -> Small
@@ -96,12 +87,10 @@ impl Dtqs {
         ensures dtqs { self.new ≡ (waiting self.old (waiter_for self.old reason task pri rank) tmo).dtqs }
         ensures synced { result ≡ (waiting self.old (waiter_for self.old reason task pri rank) tmo).synced }
     {
-        let by_priority = self.queues.is_by_priority(reason);
-        let urgency = if by_priority { pri } else { 0 };
         let waiter = Waiter {
             task,
             reason,
-            urgency,
+            urgency: urgency_in(self.queues.is_by_priority(reason), pri),
             rank,
         };
         join(&mut self.waiters, waiter, tmo);

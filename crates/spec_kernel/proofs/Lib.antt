@@ -12,3 +12,4 @@ pub mod SemaphoreHistories
 pub mod FlagHistories
 pub mod NextWaiter
 pub mod QueueHistories
+pub mod OneSide

@@ -23,3 +23,4 @@ pub mod DataQueues
 pub mod Waiting
 pub mod PlainQueues
 pub mod QueueRows
+pub mod QueueRuns
