@@ -1,6 +1,5 @@
 -- Each change of the tasks keeps how they stand.
-use Rattle.std.proofs.Common.{◌≡◌, ◌≢◌, ℕ, ◌+◌, ◌-◌, ◌<◌, ◌≤◌, Bool, true, false, not, ◌&&◌, ◌||◌, leb, ltb, List, [], ◌∷◌, ◌++◌, length, set, slice_set, Option, Some, None, is_some, is_none, refl, sym, ap, ◌∙◌, subst, inl, inr, arith}
-use Rattle.std.specs.Prelude.{◌==◌, if◌then◌else◌}
+use Rattle.std.proofs.Common.{◌≡◌, ◌≢◌, ℕ, ◌<◌, ◌≤◌, Bool, true, false, not, ◌&&◌, ◌||◌, leb, ltb, List, [], ◌∷◌, ◌++◌, length, set, slice_set, Option, Some, None, is_some, is_none, refl, sym, ap, ◌∙◌, subst, inl, inr, arith}
 use Rattle.std.proofs.lemmas.Bool.{cases_Bool, cases_eq, cases_lt, leb-false, lt-ltb, ne_eqb, le-ltb}
 use Rattle.std.proofs.lemmas.List.{get_or-set_same, get_or-set_other, get_or_past, length-set, set-get_or}
 use Rattle.it_types.specs.declared.id.TaskId.{TaskId}
@@ -12,9 +11,9 @@ use Rattle.spec_lists.proofs.Changes.{get_within, get-change_same, get-change_ot
 use Rattle.spec_lists.proofs.Counting.{one_if-at_most, one_if-same, one_if-other, times-end, times-found, times-without_same, times-without_other, room}
 use Rattle.spec_kernel.specs.declared.task_block.TaskBlock.{TaskBlock}
 use Rattle.spec_kernel.specs.declared.task_wait.TaskWait.{TaskWait}
-use Rattle.spec_kernel.specs.TaskBlocks.{changed, activations_of, wakeups_of, suspensions_of, is_active, is_suspended, one_more, begun, dormant, with_priority, with_suspensions, one_activation_more, one_activation_less, without_activations, one_wakeup_more, one_wakeup_less, without_wakeups, one_suspension_more}
+use Rattle.spec_kernel.specs.TaskBlocks.{changed, is_active, is_suspended, one_more, begun, dormant, with_priority, with_suspensions, one_activation_more, one_activation_less, without_activations, one_wakeup_more, one_wakeup_less, without_wakeups, one_suspension_more}
 use Rattle.spec_kernel.specs.PlainTasks.{PlainTasks, to_the_end, without}
-use Rattle.k_task.specs.Kept.{number, is_runnable, StandsAt, Standing, Kept}
+use Rattle.k_task.specs.Kept.{number, is_runnable, StandsAt, Kept}
 
 -- ---- counts
 
@@ -104,10 +103,13 @@ module _ {d : PlainTasks} (kept : Kept d) where
 
   -- a task that is there has an id from 1 to 16
   pub within : (id : ℕ) (x : TaskBlock) → get d.tasks id ≡ Some x → (1 ≤ id) × (id ≤ 16)
-  within id x e = (elim (cases_eq id 0) [
-    | inl nil ↦ absurd (let f : None ≡ Some x = sym kept.nobody ∙ ap (get d.tasks) (sym nil) ∙ e in cc)
-    | inr some ↦ omega (arith, some)
-  ], omega (arith, get_within d.tasks id x e, kept.places))
+  within id x e = (
+    elim (cases_eq id 0) [
+      | inl nil ↦ absurd (let f : None ≡ Some x = sym kept.nobody ∙ ap (get d.tasks) (sym nil) ∙ e in cc)
+      | inr some ↦ omega (arith, some)
+    ],
+    omega (arith, get_within d.tasks id x e, kept.places),
+  )
 
   pub inactive_off : (id : ℕ) → is_active (get d.tasks id) ≡ false → is_runnable d id ≡ false
   inactive_off id e = rw e refl

@@ -1,9 +1,8 @@
 -- How tasks stand at any time (µITRON4.0 section 3.2, task states), and what their tables keep.
-use Rattle.std.specs.Prelude.{◌≡◌, ℕ, ◌≤◌, Bool, false, not, ◌&&◌, List, length, Option, None, is_some}
+use Rattle.std.specs.Prelude.{◌≡◌, ℕ, ◌≤◌, Bool, false, not, ◌&&◌, length, None, is_some}
 use Rattle.it_types.specs.declared.id.TaskId.{TaskId}
 use Rattle.spec_lists.specs.Tables.{get}
 use Rattle.spec_lists.specs.Counting.{one_if, times}
-use Rattle.spec_kernel.specs.declared.task_block.TaskBlock.{TaskBlock}
 use Rattle.spec_kernel.specs.TaskBlocks.{is_active, is_suspended, activations_of, wakeups_of, suspensions_of}
 use Rattle.spec_kernel.specs.PlainTasks.{PlainTasks}
 

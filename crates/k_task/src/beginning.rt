@@ -9,9 +9,7 @@ use crate::Tasks;
 use crate::blocks::{GREATEST_COUNT, activations_of, is_active};
 use crate::dids::{only_if, with_begun, with_code};
 use crate::named::{is_wrong_task, named};
-use it_types::{
-    Ctx, E_ID, E_ILUSE, E_NOEXS, E_OBJ, E_OK, E_QOVR, Er, TaskId, first_refusal,
-};
+use it_types::{Ctx, E_ID, E_ILUSE, E_NOEXS, E_OBJ, E_OK, E_QOVR, Er, TaskId, first_refusal};
 use spec_kernel::Did;
 
 impl Tasks {

@@ -4,9 +4,8 @@ ghost use Rattle.std.specs.Prelude.{◌≡◌, ◌≤◌};
 ghost use Rattle.spec_kernel.specs.TaskBlocks.{activations_of, one_activation_less, one_activation_more, one_wakeup_less, one_wakeup_more, suspensions_of, wakeups_of, with_priority, without_activations, without_wakeups};
 ghost use Rattle.spec_kernel.specs.PlainTasks.{block_of, with_task};
 
-use crate::Tasks;
 use crate::blocks::{activations_of, suspensions_of, wakeups_of};
-use crate::table;
+use crate::{Tasks, table};
 use it_types::TaskId;
 
 impl Tasks {

@@ -8,9 +8,7 @@ use crate::Tasks;
 use crate::blocks::{GREATEST_COUNT, is_active, wakeups_of};
 use crate::dids::{only_if, with_code, with_freed, with_wait};
 use crate::named::{is_wrong_task, named};
-use it_types::{
-    Ctx, E_ID, E_NOEXS, E_OBJ, E_OK, E_PAR, E_QOVR, Er, TaskId, Tmo, first_refusal,
-};
+use it_types::{Ctx, E_ID, E_NOEXS, E_OBJ, E_OK, E_PAR, E_QOVR, Er, TaskId, Tmo, first_refusal};
 use spec_kernel::{Did, TaskWait};
 
 fn tslp_tsk_refusal(tmo: Tmo) -> Option<Er>

@@ -1,4 +1,4 @@
-use Rattle.std.proofs.Common.{sym, ap, ◌∙◌, is_none, arith}
+use Rattle.std.proofs.Common.{ap, ◌∙◌, is_none, arith}
 use Rattle.spec_kernel.specs.TaskBlocks.{is_active}
 use Rattle.spec_kernel.specs.PlainTasks.{PlainTasks, block_of}
 use Rattle.k_task.proofs.Keeping.{known, kept_begun, room_for, inactive_off}

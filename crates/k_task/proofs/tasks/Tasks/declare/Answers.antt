@@ -1,4 +1,4 @@
-use Rattle.std.proofs.Common.{◌≡◌, None, sym, ap, ◌∙◌, refl, arith}
+use Rattle.std.proofs.Common.{ap, ◌∙◌, refl, arith}
 use Rattle.spec_lists.specs.Tables.{get}
 use Rattle.spec_kernel.specs.PlainTasks.{PlainTasks}
 use Rattle.spec_kernel.specs.TaskOpening.{block_at_start}
