@@ -5,3 +5,4 @@ pub mod Telling
 pub mod Declaring
 pub mod AtQueues
 pub mod SemaphoreLaws
+pub mod FlagLaws

@@ -5,6 +5,8 @@
 mod dtq_calls;
 mod dtq_ends;
 mod dtqs;
+mod flag_table;
+mod flags;
 mod next;
 mod queue;
 mod queues;
@@ -13,6 +15,7 @@ mod sems;
 mod waiters;
 
 pub use dtqs::Dtqs;
+pub use flags::Flags;
 #[doc(hidden)]
 pub use queue::Queue;
 pub use sems::Sems;

@@ -19,7 +19,7 @@ use spec_kernel::{SemaphoreBlock, WaitReason, Waiter};
 use std::alloc::Global;
 use std::marker::Model;
 
-/// The semaphores of a kernel, and the tasks that wait at them (µITRON4.0 section 4.4.1). After its opening it takes no memory.
+/// The semaphores of a kernel, and the tasks that wait at them in the order of their ranks (µITRON4.0 section 4.4.1). After its opening it takes no memory.
 #[derive(Debug, Drop)]
 pub struct Sems {
     semaphores: Table<SemaphoreBlock, MAX_SEMAPHORES>,
