@@ -478,16 +478,3 @@ module _ {d : PlainTasks} (kept : Kept d) where
       → Kept (record d { tasks = tasks; runnable = runnable })
   kept_declared_active t x low high new active a w none e r =
       rw r (kept_declared t x low high new a w none (e ∙ put_new d.tasks t.0 x low high new) (more_at_end t) (one_at_end t (new_off t.0 new) ∙ sym (ap one_if active)))
-
-  pub kept_declared_dormant : {tasks : List (Option TaskBlock)} (t : TaskId) (x : TaskBlock)
-      → 1 ≤ t.0
-      → t.0 ≤ 16
-      → get d.tasks t.0 ≡ None
-      → x.active ≡ false
-      → x.activations ≤ 255
-      → x.wakeups ≤ 255
-      → x.suspensions ≡ 0
-      → tasks ≡ put_into 16 d.tasks t.0 x
-      → Kept (record d { tasks = tasks })
-  kept_declared_dormant t x low high new inactive a w none e =
-      kept_declared t x low high new a w none (e ∙ put_new d.tasks t.0 x low high new) (λ id other. refl) ((stands t.0).listed ∙ ap one_if (new_off t.0 new) ∙ sym (ap one_if inactive))
