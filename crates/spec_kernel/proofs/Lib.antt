@@ -13,3 +13,4 @@ pub mod FlagHistories
 pub mod NextWaiter
 pub mod QueueHistories
 pub mod OneSide
+pub mod ClockHistories

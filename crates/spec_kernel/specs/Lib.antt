@@ -24,3 +24,4 @@ pub mod Waiting
 pub mod PlainQueues
 pub mod QueueRows
 pub mod QueueRuns
+pub mod PlainClock

@@ -1,6 +1,7 @@
 //! The specification of the kernel: its plain data, and as definitions its state, rows, settling and step.
 #![tactic(auto)]
 
+mod cyclic_block;
 mod did;
 mod flag_block;
 mod handed;
@@ -14,6 +15,7 @@ mod task_wait;
 mod wait;
 mod waiter;
 
+pub use cyclic_block::CyclicBlock;
 pub use did::Did;
 pub use flag_block::FlagBlock;
 pub use handed::Handed;
