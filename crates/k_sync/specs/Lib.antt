@@ -1,2 +1,3 @@
 pub mod Waiting
 pub mod KeptSemaphores
+pub mod KeptQueues

@@ -4,6 +4,7 @@ ghost use Rattle.it_types.specs.Callers.{is_poll};
 ghost use Rattle.spec_lists.specs.Refusal.{first_refusal};
 ghost use Rattle.spec_lists.specs.Tables.{get};
 ghost use Rattle.spec_kernel.specs.AnswerBytes.{four_bytes};
+ghost use Rattle.spec_kernel.specs.QueueRuns.{NeverBoth};
 ghost use Rattle.spec_kernel.specs.PlainQueues.{is_met, next_ready};
 ghost use Rattle.spec_kernel.specs.QueueRows.{fsnd_dtq, fsnd_dtq_refusals, item_sent, met, other_side, sends_at_once, trcv_dtq, tsnd_dtq, tsnd_dtq_refusals, waiter_for, waiting};
 ghost use Rattle.k_sync.specs.Waiting.{MayWait, paired};
@@ -84,6 +85,7 @@ impl Dtqs {
     /// The task waits, but for a poll.
     fn wait(&mut self, reason: WaitReason, tmo: Tmo, task: TaskId, pri: u32, rank: u64) -> Synced
         requires may_wait { is_poll tmo ≡ false → MayWait task self.old.waiters }
+        requires one_side { NeverBoth (waiting self.old (waiter_for self.old reason task pri rank) tmo).dtqs.waiters }
         ensures dtqs { self.new ≡ (waiting self.old (waiter_for self.old reason task pri rank) tmo).dtqs }
         ensures synced { result ≡ (waiting self.old (waiter_for self.old reason task pri rank) tmo).synced }
     {

@@ -2,6 +2,7 @@ ghost use Rattle.std.specs.Prelude.{◌≡◌, IsSomeAnd, true};
 ghost use Rattle.std.specs.List.{list_any};
 ghost use Rattle.spec_kernel.specs.Waiters.{is_task};
 ghost use Rattle.spec_kernel.specs.Waiting.{queues_after};
+ghost use Rattle.spec_kernel.specs.QueueRuns.{NeverBoth};
 ghost use Rattle.spec_kernel.specs.PlainQueues.{bytes_of, freed, handed_bytes, is_by_priority, is_met, left, next_freed, next_ready, reprioritised, without};
 
 use crate::Dtqs;
@@ -76,9 +77,10 @@ impl Dtqs {
     }
 
     /// The task whose wait ends next, with the code and the bytes that it gets: that of the call which the last one has ended, or
-    /// else the one that is freed next.
+    /// else the one that is freed next. A sender and a receiver never wait at one queue.
     pub fn next_ready(&self) -> Option<(TaskId, Er, Small)>
-        ensures { result ≡ next_ready self.now }
+        ensures next { result ≡ next_ready self.now }
+        ensures one_side { NeverBoth self.now.waiters }
     {
         match self.handed {
             Some(handed) => Some((handed.task, E_OK, handed_bytes(handed.item))),

@@ -21,13 +21,13 @@ pub struct Dtqs {
 
 impl Model for Dtqs {
     ghost use Rattle.spec_kernel.specs.PlainQueues.{PlainQueues};
-    ghost use Rattle.k_sync.specs.Waiting.{AreApart};
+    ghost use Rattle.k_sync.specs.KeptQueues.{AreKept};
 
     ghost Value = { PlainQueues };
 
     ghost view = { λ d. record { queues = d.queues; waiters = d.waiters.items; handed = d.handed } };
 
-    ghost invariant = { λ d. AreApart d.waiters.items };
+    ghost invariant = { λ d. AreKept d.waiters.items };
 }
 
 impl Dtqs {

@@ -4,6 +4,8 @@
 
 mod dtq_calls;
 mod dtq_ends;
+#[cfg(test)]
+mod dtq_tests;
 mod dtqs;
 mod flag_table;
 #[cfg(test)]

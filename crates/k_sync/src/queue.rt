@@ -71,7 +71,7 @@ impl Queue {
     pub(crate) fn take(&mut self)
         ensures { self.new ≡ record self.old { items = without_oldest self.old.items } }
     {
-        self.ring.pop_front();
+        let _ = self.ring.pop_front();
     }
 
     /// Appends an item where there is room.

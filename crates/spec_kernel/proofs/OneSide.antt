@@ -62,7 +62,7 @@ left_true true b e = refl
 left_true false b e = absurd (let f : false ≡ true = e in cc)
 
 -- the one that was found is out
-never_fewer : (f : Waiter → Bool) (ws : List Waiter) (z : Waiter × List Waiter) → take_first f ws ≡ Some z → NeverBoth ws → NeverBoth z.1
+pub never_fewer : (f : Waiter → Bool) (ws : List Waiter) (z : Waiter × List Waiter) → take_first f ws ≡ Some z → NeverBoth ws → NeverBoth z.1
 never_fewer f ws z e never q sends =
     left_false (list_any (is_in (reasons.Receive q)) z.1) (is_in (reasons.Receive q) z.0)
     (sym (any_split f (is_in (reasons.Receive q)) ws z e) ∙ never q (any_split f (is_in (reasons.Send q 0)) ws z e ∙ left_true (list_any (is_in (reasons.Send q 0)) z.1) (is_in (reasons.Send q 0) z.0) sends))
@@ -159,6 +159,33 @@ module _ (d : PlainQueues) (settled : IsSettled d) (never : NeverBoth d.waiters)
     | inr nobody ↦ no_receiver d settled q (full_has_item (get d.queues q.0) some (sym (and-true (has_room (get d.queues q.0))) ∙ rw nobody at waits))
   ]
 
+  pub sender_waits : (q : ObjId) (item : ℕ) (tmo : Tmo) (w : Waiter)
+      → w.reason ≡ reasons.Send q item
+      → other_side d q (reasons.Receive q) ≡ None
+      → sends_at_once d (reasons.Send q item) ≡ false
+      → NeverBoth (joined_by w tmo d.waiters)
+  sender_waits q item tmo w is none waits = never_joined w tmo d.waiters never (never_sender w q item d.waiters is alone never)
+    where
+      alone : list_any (is_in (reasons.Receive q)) d.waiters ≡ false
+      alone = elim (cases_Bool (hands_over (get d.queues q.0))) [
+        | inl hands ↦ nobody_first (reasons.Receive q) d.waiters (rw hands at none)
+        | inr keeps ↦ sender_alone q item keeps waits
+      ]
+
+  -- and a receiver that finds no item where nobody sends
+  pub receiver_waits : (q : ObjId) (tmo : Tmo) (w : Waiter)
+      → w.reason ≡ reasons.Receive q
+      → other_side d q (reasons.Send q 0) ≡ None
+      → is_met d.queues (reasons.Receive q) ≡ false
+      → NeverBoth (joined_by w tmo d.waiters)
+  receiver_waits q tmo w is none waits = never_joined w tmo d.waiters never (never_receiver w q d.waiters is alone never)
+    where
+      alone : list_any (is_in (reasons.Send q 0)) d.waiters ≡ false
+      alone = elim (cases_Bool (hands_over (get d.queues q.0))) [
+        | inl hands ↦ nobody_first (reasons.Send q 0) d.waiters (rw hands at none)
+        | inr keeps ↦ no_sender d settled q (empty_has_room (get d.queues q.0) keeps waits)
+      ]
+
   sent_never : (q : ObjId) (item : ℕ) (tmo : Tmo) (task : TaskId) (pri rank : ℕ) (o : Option (Waiter × List Waiter))
       → other_side d q (reasons.Receive q) ≡ o
       → NeverBoth (sent_to d q item tmo task pri rank o).dtqs.waiters
@@ -168,10 +195,7 @@ module _ (d : PlainQueues) (settled : IsSettled d) (never : NeverBoth d.waiters)
   ]
   sent_never q item tmo task pri rank None e = elim (cases_Bool (sends_at_once d (reasons.Send q item))) [
     | inl at_once ↦ rw at_once never
-    | inr waits ↦ rw waits (never_joined _ tmo d.waiters never (never_sender _ q item d.waiters refl (elim (cases_Bool (hands_over (get d.queues q.0))) [
-      | inl hands ↦ nobody_first (reasons.Receive q) d.waiters (rw hands at e)
-      | inr keeps ↦ sender_alone q item keeps waits
-    ]) never))
+    | inr waits ↦ rw waits (sender_waits q item tmo _ refl e waits)
   ]
 
   received_never : (q : ObjId) (tmo : Tmo) (task : TaskId) (pri rank : ℕ) (o : Option (Waiter × List Waiter))
@@ -183,10 +207,7 @@ module _ (d : PlainQueues) (settled : IsSettled d) (never : NeverBoth d.waiters)
   ]
   received_never q tmo task pri rank None e = elim (cases_Bool (is_met d.queues (reasons.Receive q))) [
     | inl at_once ↦ rw at_once never
-    | inr waits ↦ rw waits (never_joined _ tmo d.waiters never (never_receiver _ q d.waiters refl (elim (cases_Bool (hands_over (get d.queues q.0))) [
-      | inl hands ↦ nobody_first (reasons.Send q 0) d.waiters (rw hands at e)
-      | inr keeps ↦ no_sender d settled q (empty_has_room (get d.queues q.0) keeps waits)
-    ]) never))
+    | inr waits ↦ rw waits (receiver_waits q tmo _ refl e waits)
   ]
 
 -- a call that is refused changes nothing

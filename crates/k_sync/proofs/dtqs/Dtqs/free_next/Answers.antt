@@ -2,7 +2,7 @@ use Rattle.std.proofs.Common.{refl}
 use Rattle.std.proofs.lemmas.Bool.{and_parts}
 use Rattle.spec_kernel.specs.PlainQueues.{is_met}
 use Rattle.spec_kernel.specs.Waiters.{comes_next}
-use Rattle.k_sync.proofs.AtQueues.{frees, frees_nobody}
+use Rattle.k_sync.proofs.AtQueues.{frees, frees_nobody, kept_taken}
 use Rattle.k_sync.proofs.Found.{found_passes}
 use Rattle.k_sync.proofs.dtqs.Dtqs.free_next.Goals as goal
 
@@ -22,3 +22,9 @@ pub returns-in_default : goal.returns-in_default
 returns-in_default c =
     let first = c.in_default.ensures.found (comes_next (is_met c.self.inside.queues) c.self.inside.waiters.items) (rw c.as_slice.ensures.value at c.next_place-place.ensures) in
     frees_nobody _ c.args.self.now c.take_out.new.waiters.items c.self.view_is first (c.in_default.ensures.none refl)
+
+pub invariant_of-self : goal.invariant_of-self
+invariant_of-self c =
+    let next = comes_next (is_met c.self.inside.queues) c.self.inside.waiters.items in
+    kept_taken c.self.inside.queues c.self.inside.waiters.items c.self.invariant c.take_out.new.waiters.items c.take_out.ensures.apart next c.take_out.result
+    (c.take_out.ensures.found next (rw c.as_slice.ensures.value at c.next_place-place.ensures)) c.take_out.ensures.none

@@ -1,5 +1,11 @@
+use Rattle.std.proofs.Common.{ap, subst}
+use Rattle.spec_kernel.specs.PlainQueues.{PlainQueues}
+use Rattle.spec_kernel.specs.QueueRuns.{NeverBoth}
 use Rattle.k_sync.proofs.AtQueues.{told_next}
 use Rattle.k_sync.proofs.dtqs.Dtqs.next_ready.Goals as goal
 
 pub returns-in-None : goal.returns-in-None
-returns-in-None c = told_next _ c.args.self.now _ c.next_ready.result c.self.view_is c.in-None.is c.as_slice.ensures.value c.next_ready.ensures
+returns-in-None c = record {
+  next = told_next _ c.args.self.now _ c.next_ready.result c.self.view_is c.in-None.is c.as_slice.ensures.value c.next_ready.ensures;
+  one_side = subst NeverBoth (ap (λ (d : PlainQueues). d.waiters) c.self.view_is) c.self.invariant.one_side;
+}
