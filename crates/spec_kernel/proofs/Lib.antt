@@ -14,3 +14,5 @@ pub mod NextWaiter
 pub mod QueueHistories
 pub mod OneSide
 pub mod ClockHistories
+pub mod WaitingParts
+pub mod RisingRanks

@@ -1,8 +1,9 @@
--- Where nobody is freed next, nobody is met who waits at an object.
-use Rattle.std.proofs.Common.{◌≡◌, ℕ, Bool, true, false, not, ◌&&◌, ltb, eqb, List, [], ◌∷◌, None, refl, ap}
-use Rattle.std.proofs.lemmas.Bool.{and_parts, eqb-true}
+-- Nobody is freed next exactly where nobody is met who waits at an object.
+use Rattle.std.proofs.Common.{◌≡◌, ℕ, Bool, true, false, not, ◌&&◌, ltb, eqb, List, [], ◌∷◌, None, refl, ap, inl, inr}
+use Rattle.std.proofs.lemmas.Bool.{cases_Bool, and_parts, eqb-true}
 use Rattle.std.specs.List.{list_any}
-use Rattle.spec_lists.proofs.Firsts.{none_any, none_weaker}
+use Rattle.spec_lists.specs.First.{take_first}
+use Rattle.spec_lists.proofs.Firsts.{none_any, none_from_parts, none_weaker}
 use Rattle.it_types.specs.declared.id.ObjId.{ObjId}
 use Rattle.spec_kernel.specs.declared.reason.FlagWait.{FlagWait}
 use Rattle.spec_kernel.specs.declared.reason.WaitReason.{WaitReason}
@@ -58,3 +59,16 @@ module _ (is_met : WaitReason → Bool) (ws : List Waiter) (reason : WaitReason)
 
   pub nobody_met : next_waiter is_met ws ≡ None → list_any is_met_in ws ≡ false
   nobody_met none = none_any is_met_in ws (none_least is_met_in urgency ws (none_weaker (is_least is_met_in urgency ws) (comes_next is_met ws) ws least_next none))
+
+nobody_found : {X : Type 0} (f : X → Bool) (xs : List X) → list_any f xs ≡ false → take_first f xs ≡ None
+nobody_found f [] e = refl
+nobody_found f (x ∷ xs) e = elim (cases_Bool (f x)) [
+  | inl t ↦ absurd (let h : true ≡ false = rw t at e in cc)
+  | inr t ↦ none_from_parts f x xs t (nobody_found f xs (rw t at e))
+]
+
+-- and where nobody is met, nobody is freed
+pub nobody_next : (is_met : WaitReason → Bool) (ws : List Waiter) → list_any (λ w. is_met w.reason) ws ≡ false → next_waiter is_met ws ≡ None
+nobody_next is_met ws none =
+    none_weaker (comes_next is_met ws) (λ w. is_met w.reason) ws (λ w e. (and_parts (is_met w.reason) (not (list_any (λ v. (is_met v.reason && is_in w.reason v) && ltb v.urgency w.urgency) ws)) e).0)
+    (nobody_found (λ w. is_met w.reason) ws none)
