@@ -16,3 +16,4 @@ pub mod OneSide
 pub mod ClockHistories
 pub mod WaitingParts
 pub mod RisingRanks
+pub mod WholeHistories

@@ -25,3 +25,8 @@ pub mod PlainQueues
 pub mod QueueRows
 pub mod QueueRuns
 pub mod PlainClock
+pub mod WholeKernel
+pub mod WholeSettle
+pub mod WholeRows
+pub mod WholeTime
+pub mod WholeOpening

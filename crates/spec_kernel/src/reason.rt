@@ -33,11 +33,13 @@ impl Default for WaitReason {
     }
 }
 
-/// A call that waits: its number, its task, why it waits, and its deadline: the tick at which it ends by time, if any.
+/// A call that waits: its number, its task, why it waits, its deadline, which is the tick at which it ends by time, if any, and its
+/// rank.
 #[derive(Clone, Copy, Debug)]
 pub struct WaitingCall {
     pub call: CallNo,
     pub task: TaskId,
     pub reason: WaitReason,
     pub deadline: Option<u64>,
+    pub rank: u64,
 }
