@@ -30,3 +30,4 @@ pub mod WholeSettle
 pub mod WholeRows
 pub mod WholeTime
 pub mod WholeOpening
+pub mod WholeParts
