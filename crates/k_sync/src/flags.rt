@@ -1,4 +1,4 @@
-ghost use Rattle.std.specs.Prelude.{◌≡◌, ◌||◌, ◌==◌, IfOk, IsSomeAnd, None, false};
+ghost use Rattle.std.specs.Prelude.{◌≡◌, ◌||◌, ◌==◌, IfOk, IsSomeAnd, false};
 ghost use Rattle.std.specs.List.{list_any};
 ghost use Rattle.it_types.specs.Callers.{is_poll, is_nblk};
 ghost use Rattle.spec_lists.specs.Refusal.{first_refusal};

@@ -1,7 +1,6 @@
 //! The semaphores by their ids (µITRON4.0 section 4.4.1).
 
-ghost use Rattle.std.specs.Prelude.{◌≡◌, ◌<◌, ◌==◌, ℕ, Bool, List, [], Option, Some, None, is_none, option_copied, IfOk, true};
-ghost use Rattle.std.specs.List.{list_all};
+ghost use Rattle.std.specs.Prelude.{◌≡◌, ◌<◌, IfOk, is_none};
 ghost use Rattle.spec_lists.specs.Tables.{get, change, empty_table, filled};
 ghost use Rattle.spec_kernel.specs.SemaphoreBlocks.{count_of, has_count, is_full, one_more, semaphore_id, semaphore_declared};
 ghost use Rattle.spec_kernel.specs.PlainKernel.{greatest_id};
