@@ -1,10 +1,9 @@
--- The laws of the first of a list that passes a test: that it passes, that it fails what all fail, and that one passes where one is
--- found.
-use Rattle.std.proofs.Common.{◌≡◌, Bool, true, false, List, [], ◌∷◌, Option, Some, None, is_some, refl, inl, inr}
+-- The laws of the first of a list that passes a test: that it passes, and that one passes exactly where one is found.
+use Rattle.std.proofs.Common.{◌≡◌, Bool, true, List, [], ◌∷◌, Option, Some, None, is_some, refl, inl, inr}
 use Rattle.std.specs.List.{list_any}
 use Rattle.std.proofs.lemmas.Bool.{cases_Bool}
 use Rattle.spec_lists.specs.First.{put_back, take_first}
-use Rattle.spec_lists.proofs.Firsts.{some_parts, none_parts}
+use Rattle.spec_lists.proofs.Firsts.{some_parts}
 
 -- what is found passes
 pub found_passes : {X : Type 0} (f : X → Bool) (xs : List X) (z : X × List X) → take_first f xs ≡ Some z → f z.0 ≡ true
@@ -12,14 +11,6 @@ found_passes f [] z e = cc
 found_passes f (x ∷ xs) z e = elim (some_parts f x xs z e) [
   | inl s ↦ rw s.1 s.0
   | inr s ↦ rw s.3 (found_passes f xs s.0 s.2)
-]
-
--- what is found fails each test that nothing passes
-pub found_fails : {X : Type 0} (f g : X → Bool) (xs : List X) (z : X × List X) → take_first g xs ≡ None → take_first f xs ≡ Some z → g z.0 ≡ false
-found_fails f g [] z n e = cc
-found_fails f g (x ∷ xs) z n e = elim (some_parts f x xs z e) [
-  | inl s ↦ rw s.1 (none_parts g x xs n).0
-  | inr s ↦ rw s.3 (found_fails f g xs s.0 (none_parts g x xs n).1 s.2)
 ]
 
 put_back-is_some : {X : Type 0} (x : X) (o : Option (X × List X)) → is_some o ≡ is_some (put_back x o)

@@ -1,3 +1,5 @@
+//! Data queues that are opened with memory keep and hand over items.
+
 ghost use Rattle.std.specs.Prelude.{IfOk};
 ghost use Rattle.spec_kernel.specs.PlainQueues.{AreDeclarable};
 
@@ -81,5 +83,26 @@ fn a_data_queue_keeps_its_items(rt: HostRuntime) -> Result<(), Fail> {
     assert!(rt; is_refused(&force(&rt, &mut dtqs, 3, 8), E_ILUSE));
     assert!(rt; is_refused(&receive(&rt, &mut dtqs, 1), E_NOEXS));
     assert!(rt; !dtqs.leave(TaskId(1)) && !dtqs.reprioritise(TaskId(1), 5, 2));
+    Ok(())
+}
+
+#[test]
+fn a_queue_without_capacity_hands_over(rt: HostRuntime) -> Result<(), Fail> {
+    let conf = declared(rt.alloc())?;
+    let mut dtqs = Dtqs::open(rt.alloc(), &conf)?;
+    let waits = dtqs.trcv_dtq(ObjId(3), Tmo::Fevr, TaskId(7), 5, 1);
+    assert!(rt; matches!(waits, Synced::MustWait));
+    assert!(rt; is_met_with(&send(&rt, &mut dtqs, 3, 9), &[]));
+    match dtqs.next_ready() {
+        Some((task, code, bytes)) => {
+            assert_eq!(rt; task, TaskId(7));
+            assert_eq!(rt; code, E_OK);
+            assert!(rt; bytes.as_slice() == [0, 0, 0, 9].as_slice());
+            dtqs.free(task);
+        }
+        None => assert!(rt; false, "nobody is freed"),
+    }
+    assert!(rt; dtqs.next_ready().is_none());
+    assert!(rt; matches!(send(&rt, &mut dtqs, 3, 9), Synced::MustWait));
     Ok(())
 }

@@ -38,7 +38,8 @@ same_queue u (reasons.Send a x) (reasons.Send b y) e = at_room u a b x y (eqb-tr
 same_queue u (reasons.Receive a) (reasons.Receive b) e = at_item u a b (eqb-true a.0 b.0 e)
 same_queue u a b e = absurd (let f : false ≡ true = e in cc)
 
-same_any : {X : Type 0} (f g : X → Bool) (xs : List X) → ((x : X) → f x ≡ g x) → list_any f xs ≡ list_any g xs
+-- tests that agree
+pub same_any : {X : Type 0} (f g : X → Bool) (xs : List X) → ((x : X) → f x ≡ g x) → list_any f xs ≡ list_any g xs
 same_any f g [] same = refl
 same_any f g (x ∷ xs) same = rw (same x, same_any f g xs same) refl
 

@@ -25,7 +25,7 @@ use Rattle.spec_kernel.specs.PlainQueues.{PlainQueues, is_met, is_by_priority, n
 use Rattle.spec_kernel.specs.QueueRows.{QueuesDone, unless_refused, tsnd_dtq, fsnd_dtq, trcv_dtq, tsnd_dtq_refusals, fsnd_dtq_refusals, trcv_dtq_refusals, other_side, sends_at_once, sent_to, received_from}
 use Rattle.spec_kernel.specs.QueueRuns.{QueueStep, Sends, Forces, Receives, Frees, Leaves, Reprioritises, after_step, IsSettled, IsAllowed, after_steps, AreAllowed, NeverBoth}
 use Rattle.spec_kernel.proofs.Least.{none_least}
-use Rattle.spec_kernel.proofs.NextWaiter.{same_queue, nobody_met}
+use Rattle.spec_kernel.proofs.NextWaiter.{same_any, same_queue, nobody_met}
 
 -- ---- lists that lose or get one
 
@@ -48,10 +48,6 @@ any_split f g (x ∷ xs) z e = elim (some_parts f x xs z e) [
   | inl s ↦ rw s.1 (or_comm (g x) (list_any g xs))
   | inr s ↦ rw s.3 (ap (λ b. g x || b) (any_split f g xs s.0 s.2) ∙ or_swap (g x) (list_any g s.0.1) (g s.0.0))
 ]
-
-same_any : {X : Type 0} (f g : X → Bool) (xs : List X) → ((x : X) → f x ≡ g x) → list_any f xs ≡ list_any g xs
-same_any f g [] same = refl
-same_any f g (x ∷ xs) same = rw (same x, same_any f g xs same) refl
 
 left_false : (a b : Bool) → (a || b) ≡ false → a ≡ false
 left_false true b e = e
