@@ -31,3 +31,4 @@ pub mod WholeRows
 pub mod WholeTime
 pub mod WholeOpening
 pub mod WholeParts
+pub mod WholeStanding
