@@ -94,9 +94,9 @@ answer_of ctx did = of did.gone
     of (Some t) = if t.0 == (caller ctx).0 then Quiet else Now did.code (word_bytes did.value)
 
 -- the call of a task which ends by the row itself: the task waits no longer
-abbrev pub ended_call : WholeKernel → PlainTasks → Option TaskId → Option (WaitingCall × List WaitingCall)
-ended_call k after None = None
-ended_call k after (Some t) = if is_waiting after t then None else take_first (is_of t.0) k.waits
+abbrev pub ended_call : List WaitingCall → PlainTasks → Option TaskId → Option (WaitingCall × List WaitingCall)
+ended_call waits after None = None
+ended_call waits after (Some t) = if is_waiting after t then None else take_first (is_of t.0) waits
 
 abbrev pub released_end : Option (WaitingCall × List WaitingCall) → List KEnd
 released_end None = []
@@ -108,7 +108,7 @@ the_others waits (Some found) = found.1
 
 -- the row of a call that doesn't wait
 abbrev pub done_at_once : WholeKernel → Ctx → TaskDone → WholeOutcome
-done_at_once k ctx done = let call = ended_call k done.tasks done.did.freed in record {
+done_at_once k ctx done = let call = ended_call k.waits done.tasks done.did.freed in record {
   kernel = record (with_tasks k done.tasks) { waits = the_others k.waits call };
   answer = answer_of ctx done.did;
   ends = released_end call;
