@@ -3,7 +3,7 @@ ghost use Rattle.std.specs.List.{list_any};
 ghost use Rattle.spec_kernel.specs.Waiters.{is_task};
 ghost use Rattle.spec_kernel.specs.Waiting.{queues_after};
 ghost use Rattle.spec_kernel.specs.QueueRuns.{NeverBoth};
-ghost use Rattle.spec_kernel.specs.PlainQueues.{bytes_of, freed, handed_bytes, is_by_priority, is_met, left, next_freed, next_ready, reprioritised, without};
+ghost use Rattle.spec_kernel.specs.PlainQueues.{bytes_of, freed, handed_bytes, handed_task, is_by_priority, is_met, left, next_freed, next_ready, reprioritised, without};
 
 use crate::Dtqs;
 use crate::next::{self, Objects, next_place};
@@ -88,6 +88,16 @@ impl Dtqs {
         }
     }
 
+    /// The task whose call the last one on a queue without capacity has ended, until it is freed.
+    pub fn handed(&self) -> Option<TaskId>
+        ensures { result ≡ handed_task self.now.handed }
+    {
+        match self.handed {
+            Some(handed) => Some(handed.task),
+            None => None,
+        }
+    }
+
     /// Ends the wait of the task that `next_ready` names.
     pub fn free(&mut self, task: TaskId)
         requires { IsSomeAnd (next_ready self.old) (λ next. next.0 ≡ task) }
@@ -106,6 +116,13 @@ impl Dtqs {
         ensures waited { result ≡ list_any (is_task task) self.old.waiters }
     {
         waiters::leave(&mut self.waiters, task)
+    }
+
+    /// Whether a task that waits for this waits by priority at a data queue.
+    pub fn is_by_priority(&self, reason: WaitReason) -> bool
+        ensures { result ≡ is_by_priority self.now.queues reason }
+    {
+        self.queues.is_by_priority(reason)
     }
 
     /// Moves a task that waits in a queue by priority to its new place; whether it waits.

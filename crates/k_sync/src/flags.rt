@@ -3,7 +3,7 @@ ghost use Rattle.std.specs.List.{list_any};
 ghost use Rattle.it_types.specs.Callers.{is_poll, is_nblk};
 ghost use Rattle.spec_lists.specs.Refusal.{first_refusal};
 ghost use Rattle.spec_kernel.specs.Waiters.{is_task};
-ghost use Rattle.spec_kernel.specs.PlainFlags.{AreDeclarable, opened, next_ready, freed, left, reprioritised};
+ghost use Rattle.spec_kernel.specs.PlainFlags.{AreDeclarable, is_by_priority, opened, next_ready, freed, left, reprioritised};
 ghost use Rattle.spec_kernel.specs.FlagRows.{set_flg, clr_flg, twai_flg, asked_for, is_occupied, set_flg_refusals, twai_flg_refusals};
 ghost use Rattle.k_sync.specs.Waiting.{MayWait};
 
@@ -183,6 +183,13 @@ impl Flags {
         ensures waited { result ≡ list_any (is_task task) self.old.waiters }
     {
         waiters::leave(&mut self.waiters, task)
+    }
+
+    /// Whether a task that waits for this waits by priority at a event flag.
+    pub fn is_by_priority(&self, reason: WaitReason) -> bool
+        ensures { result ≡ is_by_priority self.now.flags reason }
+    {
+        self.flags.is_by_priority(reason)
     }
 
     /// Moves a task that waits in a queue by priority to its new place; whether it waits at a flag.

@@ -3,7 +3,7 @@ ghost use Rattle.std.specs.List.{list_any};
 ghost use Rattle.it_types.specs.Callers.{is_poll};
 ghost use Rattle.spec_lists.specs.Refusal.{first_refusal};
 ghost use Rattle.spec_kernel.specs.Waiters.{is_task};
-ghost use Rattle.spec_kernel.specs.PlainSemaphores.{AreDeclarable, opened, next_ready, freed, left, reprioritised};
+ghost use Rattle.spec_kernel.specs.PlainSemaphores.{AreDeclarable, is_by_priority, opened, next_ready, freed, left, reprioritised};
 ghost use Rattle.spec_kernel.specs.SemaphoreRows.{sig_sem, twai_sem, sig_sem_refusals, twai_sem_refusals};
 ghost use Rattle.k_sync.specs.Waiting.{MayWait};
 
@@ -133,6 +133,13 @@ impl Sems {
         ensures waited { result ≡ list_any (is_task task) self.old.waiters }
     {
         waiters::leave(&mut self.waiters, task)
+    }
+
+    /// Whether a task that waits for this waits by priority at a semaphore.
+    pub fn is_by_priority(&self, reason: WaitReason) -> bool
+        ensures { result ≡ is_by_priority self.now.semaphores reason }
+    {
+        self.semaphores.is_by_priority(reason)
     }
 
     /// Moves a task that waits in a queue by priority to its new place; whether it waits at a semaphore.

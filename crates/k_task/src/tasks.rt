@@ -1,6 +1,6 @@
 ghost use Rattle.std.specs.Prelude.{◌≡◌, ◌<◌, ◌+◌, ◌^◌};
 ghost use Rattle.spec_kernel.specs.TaskBlocks.{priority_of};
-ghost use Rattle.spec_kernel.specs.PlainTasks.{block_of, is_asleep, is_waiting, running, waiting, woken};
+ghost use Rattle.spec_kernel.specs.PlainTasks.{block_of, is_asleep, is_waiting, is_woken, running, waiting, woken};
 ghost use Rattle.spec_kernel.specs.declared.task_wait.TaskWait.TheVariants.{Other};
 ghost use Rattle.k_task.specs.Kept.{Standing};
 
@@ -83,6 +83,20 @@ impl Tasks {
         let rank = self.next_rank;
         self.next_rank += 1;
         rank
+    }
+
+    /// The number that `rank` gives next.
+    pub fn next_rank(&self) -> u64
+        ensures { result ≡ self.now.next_rank }
+    {
+        self.next_rank
+    }
+
+    /// Whether a task sleeps and has a wake-up: its call is met, and `wake` is to end its wait.
+    pub fn is_woken(&self, task: TaskId) -> bool
+        ensures { result ≡ is_woken self.now task }
+    {
+        self.is_asleep(task) && self.wakeups(task) > 0
     }
 
     /// What is kept of a task, None where there is no such task.

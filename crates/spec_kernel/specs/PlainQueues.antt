@@ -62,6 +62,10 @@ abbrev pub handed_bytes : Option ℕ → List ℕ
 handed_bytes None = []
 handed_bytes (Some item) = four_bytes item
 
+abbrev pub handed_task : Option Handed → Option TaskId
+handed_task None = None
+handed_task (Some h) = Some h.task
+
 abbrev pub next_ready_after : PlainQueues → Option Handed → Option (TaskId × Er × List ℕ)
 next_ready_after d None = told (bytes_of d.queues) (next_freed d)
 next_ready_after d (Some h) = Some (h.task, E_OK, handed_bytes h.item)

@@ -8,7 +8,7 @@ use Rattle.spec_lists.specs.First.{take_first}
 use Rattle.spec_kernel.specs.declared.task_block.TaskBlock.{TaskBlock}
 use Rattle.spec_kernel.specs.declared.task_wait.TaskWait.{TaskWait}
 use Rattle.spec_kernel.specs.declared.task_wait.TaskWait.TheVariants.{Sleep, Other}
-use Rattle.spec_kernel.specs.TaskBlocks.{changed, priority_of, is_active, is_suspended, one_wakeup_less}
+use Rattle.spec_kernel.specs.TaskBlocks.{changed, priority_of, wakeups_of, is_active, is_suspended, one_wakeup_less}
 
 pub record PlainTasks : Type 0 where
   pub tasks : List (Option TaskBlock)  -- by id
@@ -31,6 +31,10 @@ is_for_a_wakeup None = false
 
 abbrev pub is_asleep : PlainTasks → TaskId → Bool
 is_asleep d t = is_for_a_wakeup (get d.waits t.0)
+
+-- it sleeps and has a wake-up
+abbrev pub is_woken : PlainTasks → TaskId → Bool
+is_woken d t = is_asleep d t && nat_lt 0 (wakeups_of (block_of d t))
 
 abbrev pub with_task : PlainTasks → TaskId → (TaskBlock → TaskBlock) → PlainTasks
 with_task d t f = record d { tasks = change d.tasks t.0 (changed f) }
