@@ -1,6 +1,6 @@
 -- What the code does at the data queues is what its definition says: `before` are its tables, and `named` those that the contract
 -- names.
-use Rattle.std.proofs.Common.{◌≡◌, ℕ, Bool, false, List, Option, Some, None, refl, sym, subst}
+use Rattle.std.proofs.Common.{◌≡◌, ◌↔◌, ℕ, Bool, false, List, Option, Some, None, refl, sym, subst}
 use Rattle.it_types.specs.declared.id.TaskId.{TaskId}
 use Rattle.it_types.specs.declared.er.Er.{Er}
 use Rattle.spec_lists.specs.First.{take_first}
@@ -14,10 +14,11 @@ use Rattle.spec_kernel.specs.declared.reason.WaitReason.TheVariants as reasons
 use Rattle.it_types.specs.declared.id.ObjId.{ObjId}
 use Rattle.it_types.specs.declared.timeout.Tmo.{Tmo}
 use Rattle.spec_kernel.proofs.OneSide.{never_fewer, left_never, receiver_waits, reprioritised_never, sender_waits}
+use Rattle.spec_kernel.proofs.QueuesAtRest.{next_at_rest}
 use Rattle.k_sync.specs.Waiting.{AreApart, paired}
 use Rattle.k_sync.specs.KeptQueues.{AreKept}
 use Rattle.spec_kernel.specs.ObjectRows.{told, urgency_in}
-use Rattle.spec_kernel.specs.PlainQueues.{PlainQueues, bytes_of, is_by_priority, is_met, next_freed, next_ready, without}
+use Rattle.spec_kernel.specs.PlainQueues.{IsAtRest, PlainQueues, bytes_of, is_by_priority, is_met, next_freed, next_ready, without}
 use Rattle.spec_kernel.specs.DataQueues.{DataQueue}
 use Rattle.spec_kernel.specs.Waiting.{queues_after}
 
@@ -29,6 +30,9 @@ pub told_next : (before named : PlainQueues) (ws : List Waiter) (r : Option (Tas
     → r ≡ told (bytes_of before.queues) (next_waiter (is_met before.queues) ws)
     → r ≡ next_ready named
 told_next before named ws r same none is tells = subst (λ d. r ≡ next_ready d) same (rw (none, sym is) tells)
+
+pub told_at_rest : (d : PlainQueues) (r : Option (TaskId × Er × List ℕ)) → r ≡ next_ready d → (r ≡ None) ↔ IsAtRest d
+told_at_rest d r is = subst (λ x. (x ≡ None) ↔ IsAtRest d) (sym is) (next_at_rest d)
 
 -- the one that is found is freed
 pub frees : (before named : PlainQueues) (w : Waiter) (ws : List Waiter) (queues : List (Option DataQueue))

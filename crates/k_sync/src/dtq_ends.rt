@@ -1,9 +1,9 @@
-ghost use Rattle.std.specs.Prelude.{◌≡◌, IsSomeAnd, true};
+ghost use Rattle.std.specs.Prelude.{◌≡◌, ◌↔◌, IsSomeAnd, None, true};
 ghost use Rattle.std.specs.List.{list_any};
 ghost use Rattle.spec_kernel.specs.Waiters.{is_task};
 ghost use Rattle.spec_kernel.specs.Waiting.{queues_after};
 ghost use Rattle.spec_kernel.specs.QueueRuns.{NeverBoth};
-ghost use Rattle.spec_kernel.specs.PlainQueues.{bytes_of, freed, handed_bytes, handed_task, is_by_priority, is_met, left, next_freed, next_ready, reprioritised, without};
+ghost use Rattle.spec_kernel.specs.PlainQueues.{IsAtRest, bytes_of, freed, handed_bytes, handed_task, is_by_priority, is_met, left, next_freed, next_ready, reprioritised, without};
 
 use crate::Dtqs;
 use crate::next::{self, Objects, next_place};
@@ -80,6 +80,7 @@ impl Dtqs {
     /// else the one that is freed next. A sender and a receiver never wait at one queue.
     pub fn next_ready(&self) -> Option<(TaskId, Er, Small)>
         ensures next { result ≡ next_ready self.now }
+        ensures at_rest { result ≡ None ↔ IsAtRest self.now }
         ensures one_side { NeverBoth self.now.waiters }
     {
         match self.handed {

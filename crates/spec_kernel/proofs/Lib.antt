@@ -17,3 +17,5 @@ pub mod ClockHistories
 pub mod WaitingParts
 pub mod RisingRanks
 pub mod WholeHistories
+pub mod NobodyMet
+pub mod QueuesAtRest

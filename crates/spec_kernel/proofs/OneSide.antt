@@ -19,12 +19,13 @@ use Rattle.spec_kernel.specs.declared.reason.WaitReason.{WaitReason}
 use Rattle.spec_kernel.specs.declared.reason.WaitReason.TheVariants as reasons
 use Rattle.spec_kernel.specs.declared.waiter.Waiter.{Waiter}
 use Rattle.spec_kernel.specs.Waiters.{is_same_queue, is_in, is_task, urgency, first_in, joined_by, comes_next, the_others, moved}
-use Rattle.spec_kernel.specs.ObjectRows.{told}
 use Rattle.spec_kernel.specs.DataQueues.{DataQueue, hands_over, has_room, has_item}
-use Rattle.spec_kernel.specs.PlainQueues.{PlainQueues, is_met, is_by_priority, next_freed, next_ready_after, without, freed_after, freed, left, reprioritised, opened, bytes_of}
+use Rattle.spec_kernel.specs.PlainQueues.{PlainQueues, is_met, is_by_priority, next_freed, without, freed_after, freed, left, reprioritised, opened}
 use Rattle.spec_kernel.specs.QueueRows.{QueuesDone, unless_refused, tsnd_dtq, fsnd_dtq, trcv_dtq, tsnd_dtq_refusals, fsnd_dtq_refusals, trcv_dtq_refusals, other_side, sends_at_once, sent_to, received_from}
 use Rattle.spec_kernel.specs.QueueRuns.{QueueStep, Sends, Forces, Receives, Frees, Leaves, Reprioritises, after_step, IsSettled, IsAllowed, after_steps, AreAllowed, NeverBoth}
 use Rattle.spec_kernel.proofs.Least.{none_least}
+use Rattle.spec_kernel.proofs.NobodyMet.{none_next}
+use Rattle.spec_kernel.proofs.QueuesAtRest.{at_rest}
 use Rattle.spec_kernel.proofs.NextWaiter.{same_any, same_queue, nobody_met}
 
 -- ---- lists that lose or get one
@@ -111,15 +112,7 @@ meets_sender queues q r there = and-false (is_met queues r)
 
 module _ (d : PlainQueues) (settled : IsSettled d) where
   nobody_next : next_freed d ≡ None
-  nobody_next = none_handed d.handed settled
-    where
-      none_told : (o : Option (Waiter × List Waiter)) → told (bytes_of d.queues) o ≡ None → o ≡ None
-      none_told None e = refl
-      none_told (Some z) e = cc
-
-      none_handed : (h : Option Handed) → next_ready_after d h ≡ None → next_freed d ≡ None
-      none_handed None e = none_told (next_freed d) e
-      none_handed (Some h) e = cc
+  nobody_next = none_next (is_met d.queues) d.waiters (at_rest d settled).1
 
   -- nobody waits for an item that is there
   no_receiver : (q : ObjId) → has_item (get d.queues q.0) ≡ true → list_any (is_in (reasons.Receive q)) d.waiters ≡ false

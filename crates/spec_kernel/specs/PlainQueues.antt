@@ -1,6 +1,6 @@
 -- The data queues of a kernel and the tasks that wait at them, as plain lists (µITRON4.0 section 4.4.3).
 use Rattle.std.specs.Prelude.{◌≡◌, ℕ, Bool, true, false, List, [], Option, Some, None}
-use Rattle.std.specs.List.{list_all}
+use Rattle.std.specs.List.{list_all, list_any}
 use Rattle.it_types.specs.declared.id.TaskId.{TaskId}
 use Rattle.it_types.specs.declared.er.Er.{Er}
 use Rattle.it_types.specs.declared.er.TheConstants.{E_OK}
@@ -73,6 +73,10 @@ next_ready_after d (Some h) = Some (h.task, E_OK, handed_bytes h.item)
 -- first of all that of the call that was ended by another
 abbrev pub next_ready : PlainQueues → Option (TaskId × Er × List ℕ)
 next_ready d = next_ready_after d d.handed
+
+-- no call has ended by another, and nobody is met who waits
+abbrev pub IsAtRest : PlainQueues → Type 0
+IsAtRest d = (d.handed ≡ None) × (list_any (λ w. is_met d.queues w.reason) d.waiters ≡ false)
 
 abbrev pub without : PlainQueues → Option (Waiter × List Waiter) → PlainQueues
 without d None = d
