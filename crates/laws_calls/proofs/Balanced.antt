@@ -101,7 +101,7 @@ some_more n = elim (cases_Bool (leb 255 n)) [
 
 module _ (tasks : List (Option TaskBlock)) (runnable : List TaskId) (waits : List WaitingCall) (b : AreGood tasks runnable waits) where
   -- the same lists, and tasks of the same standing
-  same_good : (ts : List (Option TaskBlock)) (rs : List TaskId) (ws : List WaitingCall) (id : ℕ)
+  pub same_good : (ts : List (Option TaskBlock)) (rs : List TaskId) (ws : List WaitingCall) (id : ℕ)
       → is_active (get ts id) ≡ is_active (get tasks id)
       → is_suspended (get ts id) ≡ is_suspended (get tasks id)
       → times task_number id rs ≡ times task_number id runnable

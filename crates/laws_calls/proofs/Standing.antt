@@ -34,7 +34,7 @@ good_standing k s id = record {
   good = good_from (is_active (get k.tasks id)) (is_suspended (get k.tasks id)) (waits_now k id) _ _ (waiting_some id k.waits) (waiting_none id k.waits) (s.runnable id) (s.once id) (s.active id);
 }
 
-standing_from : (k : WholeKernel) → length k.tasks ≡ 17 → get k.tasks 0 ≡ None → AreGood k.tasks k.runnable k.waits → AreRisingTo k.next_rank k.waits → IsStanding k
+pub standing_from : (k : WholeKernel) → length k.tasks ≡ 17 → get k.tasks 0 ≡ None → AreGood k.tasks k.runnable k.waits → AreRisingTo k.next_rank k.waits → IsStanding k
 standing_from k places nobody b ranks = record {
   places = places;
   nobody = nobody;
