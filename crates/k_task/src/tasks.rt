@@ -109,7 +109,8 @@ impl Tasks {
         }
     }
 
-    pub(crate) fn is_waiting(&self, task: TaskId) -> bool
+    /// Whether a call of the task waits.
+    pub fn is_waiting(&self, task: TaskId) -> bool
         ensures { result ≡ is_waiting self.now task }
     {
         self.waits.get(task.0).is_some()

@@ -155,7 +155,7 @@ done_by_flags k ctx done reason tmo number = done_by_objects k (with_objects k (
 -- a call on a queue without capacity has ended that of another task, which comes first
 abbrev pub handed_to : WholeOutcome → List ℕ → Option (WaitingCall × List WaitingCall) → WholeOutcome
 handed_to o bytes None = o
-handed_to o bytes (Some found) = record o { kernel = ended o.kernel found.0 found.1; ends = ending found.0 E_OK bytes ∷ [] }
+handed_to o bytes (Some found) = record o { kernel = ended o.kernel found.0 found.1; ends = o.ends ++ ending found.0 E_OK bytes ∷ [] }
 
 abbrev pub with_handed : WholeOutcome → Option Handed → WholeOutcome
 with_handed o None = o

@@ -35,7 +35,7 @@ impl Default for WaitReason {
 
 /// A call that waits: its number, its task, why it waits, its deadline, which is the tick at which it ends by time, if any, and its
 /// rank.
-#[derive(Clone, Copy, Debug)]
+#[derive(Clone, Copy, Debug, Default)]
 pub struct WaitingCall {
     pub call: CallNo,
     pub task: TaskId,

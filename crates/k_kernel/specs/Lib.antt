@@ -1,0 +1,5 @@
+pub mod PartsRows
+pub mod PartsSettle
+pub mod Found
+pub mod Does
+pub mod Callers

@@ -1,0 +1,17 @@
+//! The kernel over its parts: tasks, semaphores, event flags, data queues and clock, with the calls that wait.
+#![tactic(auto)]
+
+mod accepting;
+mod done;
+mod ending;
+mod moving;
+mod object_calls;
+mod parts;
+mod rows;
+mod searching;
+mod settling;
+mod task_calls;
+mod waiting_calls;
+
+pub use done::Done;
+pub use spec_kernel::{KAns, KEnd};

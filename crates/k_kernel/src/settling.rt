@@ -1,0 +1,109 @@
+//! The ends of calls that are met.
+
+ghost use Rattle.std.specs.Prelude.{ℕ, ◌≡◌, ◌<◌, ◌≤◌, ◌+◌, ◌++◌, true, length, slice_index_or, remove};
+ghost use Rattle.std.specs.List.{position};
+ghost use Rattle.spec_kernel.specs.declared.reason.WaitingCall.{WaitingCall as AWaitingCall};
+ghost use Rattle.k_kernel.specs.PartsSettle.{bytes_told, end_told, freed_call, is_named, names, next_at, settle, with_freed};
+
+use crate::Done;
+use crate::done::ending;
+use crate::parts::Parts;
+use it_types::{E_OK, Er, Small, TaskId};
+use spec_kernel::{KEnd, WaitReason, WaitingCall};
+
+/// Whether a part names this task.
+fn names(next: &Option<(TaskId, Er, Small)>, task: TaskId) -> bool
+    ensures { result ≡ names task next.now }
+{
+    match next {
+        Some((named, _, _)) => named.0 == task.0,
+        None => false,
+    }
+}
+
+/// The bytes with which the task is named.
+fn bytes_told(next: Option<(TaskId, Er, Small)>) -> Small
+    ensures { result ≡ bytes_told next }
+{
+    match next {
+        Some((_, _, bytes)) => bytes,
+        None => Small::new(),
+    }
+}
+
+impl Parts {
+    /// What the part says where a call waits for this: the task whose wait ends next there, with its code and bytes.
+    fn next_at(&self, reason: WaitReason) -> Option<(TaskId, Er, Small)>
+        ensures { result ≡ next_at self.now reason }
+    {
+        match reason {
+            WaitReason::Semaphore(_) => self.sems.next_ready(),
+            WaitReason::Flag(_) => self.flags.next_ready(),
+            WaitReason::Send(_, _) | WaitReason::Receive(_) => self.dtqs.next_ready(),
+            WaitReason::Sleep | WaitReason::Delay | WaitReason::Outside => None,
+        }
+    }
+
+    /// The call ends next where it waits.
+    fn is_named(&self, wait: &WaitingCall) -> bool
+        ensures { result ≡ is_named self.now wait.now }
+    {
+        match wait.reason {
+            WaitReason::Sleep => self.tasks.is_woken(wait.task),
+            reason => names(&self.next_at(reason), wait.task),
+        }
+    }
+
+    /// The place of the call that ends next.
+    fn next_place(&self) -> Option<usize>
+        ensures { result ≡ position (is_named self.now) self.now.waits }
+    {
+        self.waits
+            .as_slice()
+            .iter()
+            .position(|wait| self.is_named(wait))
+    }
+
+    /// The part where a task waits for this lets go of it.
+    fn let_go(&mut self, reason: WaitReason, task: TaskId)
+        requires { names task (next_at self.old reason) ≡ true }
+        ensures { self.new ≡ with_freed self.old reason }
+    {
+        match reason {
+            WaitReason::Semaphore(_) => self.sems.free(task),
+            WaitReason::Flag(_) => self.flags.free(task),
+            WaitReason::Send(_, _) | WaitReason::Receive(_) => self.dtqs.free(task),
+            WaitReason::Sleep | WaitReason::Delay | WaitReason::Outside => {}
+        }
+    }
+
+    /// Ends the call at a place, which is named.
+    fn end_at(&mut self, place: usize) -> KEnd
+        requires inside { place < length self.old.waits }
+        requires named { (w : AWaitingCall) → w ≡ slice_index_or self.old.waits place w → is_named self.old w ≡ true }
+        ensures { (w : AWaitingCall) → w ≡ slice_index_or self.old.waits place w → (self.new ≡ freed_call self.old w (remove self.old.waits place)) × (result ≡ end_told self.old w) }
+    {
+        let wait = self.waits.remove(place);
+        let next = self.next_at(wait.reason);
+        if next.is_some() {
+            self.let_go(wait.reason, wait.task);
+        }
+        self.tasks.wake(wait.task);
+        ending(wait, E_OK, bytes_told(next))
+    }
+
+    /// While a call is named, it ends.
+    pub(crate) fn settle(&mut self, done: &mut Done)
+        requires { length done.old.ends.items + length self.old.waits ≤ 32 }
+        ensures parts { self.new ≡ (settle (length self.old.waits) self.old).0 }
+        ensures ends { done.new.ends.items ≡ done.old.ends.items ++ (settle (length self.old.waits) self.old).1 }
+        ensures answer { done.new.ans ≡ done.old.ans }
+        ensures gone { done.new.gone ≡ done.old.gone }
+        ensures begun { done.new.begun ≡ done.old.begun }
+    {
+        while let Some(place) = self.next_place() {
+            let end = self.end_at(place);
+            done.ends.push(end);
+        }
+    }
+}
