@@ -58,7 +58,7 @@ some_is : {o p : WholeOutcome} → Some o ≡ Some p → o ≡ p
 some_is e = cc
 
 -- what is due is one end, and what it makes ready
-due_is : (k : WholeKernel) (o : WholeOutcome) → due k ≡ Some o → (x : WaitingCall × List WaitingCall) × (next_past k ≡ Some x) × (settled (by_time k x) ≡ o)
+pub due_is : (k : WholeKernel) (o : WholeOutcome) → due k ≡ Some o → (x : WaitingCall × List WaitingCall) × (next_past k ≡ Some x) × (settled (by_time k x) ≡ o)
 due_is k o e = elim (cases_of_first (next_past k)) [
   | inl none ↦ absurd (let nothing = due_none k (next_past_none k none) in cc)
   | inr x ↦ (x.0, x.1, some_is (sym (due_some k x.0 x.1) ∙ e))
