@@ -62,11 +62,11 @@ left_other m n ws (Some z) e ne =
 -- ---- what the tasks see of them
 
 there_is_one : (id : ℕ) (ws : List WaitingCall) → is_some (waits_at ws id) ≡ list_any (is_of id) ws
-there_is_one id ws = found_any ws
+there_is_one id ws = told (take_first (is_of id) ws) ∙ any_found ws
   where
-    some_found : (o : Option (WaitingCall × List WaitingCall)) (b : Bool) → is_some o ≡ b → is_some (task_wait_of o) ≡ b
-    some_found None b e = e
-    some_found (Some z) b e = e
+    told : (o : Option (WaitingCall × List WaitingCall)) → is_some (task_wait_of o) ≡ is_some o
+    told None = refl
+    told (Some z) = refl
 
     behind : (w : WaitingCall) (o : Option (WaitingCall × List WaitingCall)) → is_some (put_back w o) ≡ is_some o
     behind w None = refl
@@ -78,9 +78,6 @@ there_is_one id ws = found_any ws
       | inl t ↦ rw t refl
       | inr t ↦ rw t (behind w (take_first (is_of id) ws) ∙ any_found ws)
     ]
-
-    found_any : (ws : List WaitingCall) → is_some (waits_at ws id) ≡ list_any (is_of id) ws
-    found_any ws = some_found (take_first (is_of id) ws) (list_any (is_of id) ws) (any_found ws)
 
 in_places : (ws : List WaitingCall) (id : ℕ) → id < 17 → get (waits_by_task ws) id ≡ waits_at ws id
 in_places ws zero lt = refl

@@ -29,7 +29,7 @@ use Rattle.laws_calls.proofs.Balanced.{AreGood, at_most_once, waiting_active, li
 
 -- ---- from the balance and back
 
-good_standing : (k : WholeKernel) → IsStanding k → AreGood k.tasks k.runnable k.waits
+pub good_standing : (k : WholeKernel) → IsStanding k → AreGood k.tasks k.runnable k.waits
 good_standing k s id = record {
   good = good_from (is_active (get k.tasks id)) (is_suspended (get k.tasks id)) (waits_now k id) _ _ (waiting_some id k.waits) (waiting_none id k.waits) (s.runnable id) (s.once id) (s.active id);
 }
@@ -48,8 +48,8 @@ module _ (k : WholeKernel) (s : IsStanding k) where
   good : AreGood k.tasks k.runnable k.waits
   good = good_standing k s
 
-  -- a task of the table has an id below 17
-  active_within : (id : ℕ) → is_active (get k.tasks id) ≡ true → id < 17
+  -- an active task has an id of the table
+  pub active_within : (id : ℕ) → is_active (get k.tasks id) ≡ true → id < 17
   active_within id e = elim (cases_lt id 17) [
     | inl lt ↦ lt
     | inr le ↦ absurd (let none : false ≡ true = sym (ap is_active (get_or_past k.tasks id None (omega (arith, le, s.places)))) ∙ e in cc)
