@@ -25,6 +25,14 @@ next_at p (reasons.Send q item) = next_at_queues p.dtqs
 next_at p (reasons.Receive q) = next_at_queues p.dtqs
 next_at p _ = None
 
+-- it waits at an object of the kernel
+abbrev pub is_for_an_object : WaitReason → Bool
+is_for_an_object (reasons.Semaphore s) = true
+is_for_an_object (reasons.Flag w) = true
+is_for_an_object (reasons.Send q item) = true
+is_for_an_object (reasons.Receive q) = true
+is_for_an_object _ = false
+
 -- it names this task
 abbrev pub names : TaskId → Option (TaskId × Er × List ℕ) → Bool
 names t None = false
@@ -51,15 +59,28 @@ abbrev pub end_told : PlainParts → WaitingCall → KEnd
 end_told p w = ending w E_OK (bytes_told (next_at p w.reason))
 
 -- the part lets go of its task
-abbrev pub with_freed : PlainParts → WaitReason → PlainParts
-with_freed p (reasons.Semaphore s) = record p { sems = freed_semaphores p.sems }
-with_freed p (reasons.Flag w) = record p { flags = freed_flags p.flags }
-with_freed p (reasons.Send q item) = record p { dtqs = freed_queues p.dtqs }
-with_freed p (reasons.Receive q) = record p { dtqs = freed_queues p.dtqs }
-with_freed p _ = p
+abbrev pub semaphores_let_go : WaitReason → PlainSemaphores → PlainSemaphores
+semaphores_let_go (reasons.Semaphore s) d = freed_semaphores d
+semaphores_let_go _ d = d
+
+abbrev pub flags_let_go : WaitReason → PlainFlags → PlainFlags
+flags_let_go (reasons.Flag w) d = freed_flags d
+flags_let_go _ d = d
+
+abbrev pub queues_let_go : WaitReason → PlainQueues → PlainQueues
+queues_let_go (reasons.Send q item) d = freed_queues d
+queues_let_go (reasons.Receive q) d = freed_queues d
+queues_let_go _ d = d
+
+abbrev pub let_go : PlainParts → WaitReason → PlainParts
+let_go p reason = record p { sems = semaphores_let_go reason p.sems; flags = flags_let_go reason p.flags; dtqs = queues_let_go reason p.dtqs }
+
+-- the call waits no longer: its task is runnable, unless it is suspended
+abbrev pub freed_from : PlainParts → WaitingCall → PlainParts
+freed_from p w = record (let_go p w.reason) { tasks = woken p.tasks w.task }
 
 abbrev pub freed_call : PlainParts → WaitingCall → List WaitingCall → PlainParts
-freed_call p w others = let q = with_freed p w.reason in record q { tasks = woken q.tasks w.task; waits = others }
+freed_call p w others = freed_from (record p { waits = others }) w
 
 abbrev pub turn : (PlainParts → PlainParts × List KEnd) → PlainParts → Option (WaitingCall × List WaitingCall) → PlainParts × List KEnd
 turn go_on p None = (p, [])

@@ -1,9 +1,10 @@
 //! The ends of calls that are met.
 
-ghost use Rattle.std.specs.Prelude.{ℕ, ◌≡◌, ◌<◌, ◌≤◌, ◌+◌, ◌++◌, true, length, slice_index_or, remove};
+ghost use Rattle.std.specs.Prelude.{◌≡◌, ◌≤◌, ◌+◌, ◌++◌, Some, None, true, length};
 ghost use Rattle.std.specs.List.{position};
 ghost use Rattle.spec_kernel.specs.declared.reason.WaitingCall.{WaitingCall as AWaitingCall};
-ghost use Rattle.k_kernel.specs.PartsSettle.{bytes_told, end_told, freed_call, is_named, names, next_at, settle, with_freed};
+ghost use Rattle.k_kernel.specs.Found.{paired};
+ghost use Rattle.k_kernel.specs.PartsSettle.{bytes_told, end_told, freed_from, is_for_an_object, is_named, let_go, names, next_at, next_call, settle};
 
 use crate::Done;
 use crate::done::ending;
@@ -66,8 +67,8 @@ impl Parts {
 
     /// The part where a task waits for this lets go of it.
     fn let_go(&mut self, reason: WaitReason, task: TaskId)
-        requires { names task (next_at self.old reason) ≡ true }
-        ensures { self.new ≡ with_freed self.old reason }
+        requires { is_for_an_object reason ≡ true → names task (next_at self.old reason) ≡ true }
+        ensures { self.new ≡ let_go self.old reason }
     {
         match reason {
             WaitReason::Semaphore(_) => self.sems.free(task),
@@ -77,17 +78,28 @@ impl Parts {
         }
     }
 
-    /// Ends the call at a place, which is named.
-    fn end_at(&mut self, place: usize) -> KEnd
-        requires inside { place < length self.old.waits }
-        requires named { (w : AWaitingCall) → w ≡ slice_index_or self.old.waits place w → is_named self.old w ≡ true }
-        ensures { (w : AWaitingCall) → w ≡ slice_index_or self.old.waits place w → (self.new ≡ freed_call self.old w (remove self.old.waits place)) × (result ≡ end_told self.old w) }
+    /// Takes out the call that ends next.
+    fn take_next(&mut self) -> Option<WaitingCall>
+        ensures call { next_call self.old ≡ paired result self.new.waits }
+        ensures parts { self.new ≡ record self.old { waits = self.new.waits } }
+        ensures none { result ≡ None → self.new ≡ self.old }
+        ensures named { (w : AWaitingCall) → result ≡ Some w → is_named self.new w ≡ true }
+        ensures fewer { (w : AWaitingCall) → result ≡ Some w → length self.new.waits + 1 ≡ length self.old.waits }
     {
-        let wait = self.waits.remove(place);
-        let next = self.next_at(wait.reason);
-        if next.is_some() {
-            self.let_go(wait.reason, wait.task);
+        match self.next_place() {
+            Some(place) => Some(self.waits.remove(place)),
+            None => None,
         }
+    }
+
+    /// Ends a call that was taken out, which is named.
+    fn end(&mut self, wait: WaitingCall) -> KEnd
+        requires { is_named self.old wait ≡ true }
+        ensures parts { self.new ≡ freed_from self.old wait }
+        ensures end { result ≡ end_told self.old wait }
+    {
+        let next = self.next_at(wait.reason);
+        self.let_go(wait.reason, wait.task);
         self.tasks.wake(wait.task);
         ending(wait, E_OK, bytes_told(next))
     }
@@ -101,8 +113,8 @@ impl Parts {
         ensures gone { done.new.gone ≡ done.old.gone }
         ensures begun { done.new.begun ≡ done.old.begun }
     {
-        while let Some(place) = self.next_place() {
-            let end = self.end_at(place);
+        while let Some(wait) = self.take_next() {
+            let end = self.end(wait);
             done.ends.push(end);
         }
     }
