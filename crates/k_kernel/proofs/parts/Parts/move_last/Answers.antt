@@ -8,7 +8,13 @@ use Rattle.k_kernel.proofs.parts.Parts.move_last.Goals as goal
 pub returns-in-Some : goal.returns-in-Some
 returns-in-Some c =
     let p : PlainParts = record {
-      clock = c.self.inside.clock; tasks = c.self.inside.tasks; sems = c.self.inside.sems; flags = c.self.inside.flags; dtqs = c.self.inside.dtqs; waits = c.self.inside.waits.items; last_call = c.self.inside.last_call.0;
+      clock = c.self.inside.clock;
+      tasks = c.self.inside.tasks;
+      sems = c.self.inside.sems;
+      flags = c.self.inside.flags;
+      dtqs = c.self.inside.dtqs;
+      waits = c.self.inside.waits.items;
+      last_call = c.self.inside.last_call.0;
     } in
     let t = c.args.task in
     let place_is : position (waits_in_order p t) p.waits ≡ Some c.in-Some.place = ap (λ (q : PlainParts). position (waits_in_order q t) q.waits) c.self.view_is ∙ sym c.place_in_order.ensures.place ∙ c.in-Some.is in
