@@ -1,3 +1,4 @@
 pub mod Calling
-pub mod Views
 pub mod RowsAgreeSeen
+pub mod Turning
+pub mod Views
