@@ -2,10 +2,13 @@
 #![tactic(auto)]
 
 mod accepting;
+mod deadlines;
 mod done;
 mod ending;
+mod kernel;
 mod moving;
 mod object_calls;
+mod opening;
 mod parts;
 mod rows;
 mod searching;
@@ -14,4 +17,5 @@ mod task_calls;
 mod waiting_calls;
 
 pub use done::Done;
+pub use kernel::Kernel;
 pub use spec_kernel::{KAns, KEnd};
