@@ -6,3 +6,4 @@ pub mod Scan
 pub mod Soonest
 pub mod Turning
 pub mod Views
+pub mod NextAgrees
