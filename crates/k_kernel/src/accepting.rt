@@ -1,6 +1,6 @@
 //! Calls that aren't met at once.
 
-ghost use Rattle.std.specs.Prelude.{◌≡◌, ◌<◌, ◌^◌, false, length};
+ghost use Rattle.std.specs.Prelude.{◌≡◌, ◌<◌, ◌^◌, ◌≤◌, false, length};
 ghost use Rattle.it_types.specs.Callers.{is_poll};
 ghost use Rattle.spec_kernel.specs.WholeRows.{deadline_of};
 ghost use Rattle.k_kernel.specs.PartsRows.{accepted, with_wait};
@@ -49,7 +49,8 @@ impl Parts {
         requires room { is_poll tmo ≡ false → length self.old.waits < 16 }
         requires now { self.old.clock.now < 2 ^ 60 }
         requires ranks { self.old.tasks.next_rank < 2 ^ 60 }
-        ensures { Does self.new result (accepted self.old task reason tmo no) }
+        ensures does { Does self.new result (accepted self.old task reason tmo no) }
+        ensures few { length result.ends.items ≤ 1 }
     {
         if tmo.is_poll() {
             answered(KAns::Now(E_TMOUT, Small::new()))

@@ -1,6 +1,6 @@
 //! Calls that wait no longer since a row ends them.
 
-ghost use Rattle.std.specs.Prelude.{◌≡◌, ◌<◌, length};
+ghost use Rattle.std.specs.Prelude.{◌≡◌, ◌<◌, ◌≤◌, ◌+◌, length};
 ghost use Rattle.spec_kernel.specs.WholeRows.{ended_call};
 ghost use Rattle.k_kernel.specs.Found.{paired};
 ghost use Rattle.k_kernel.specs.PartsRows.{PartsOutcome, handed_over, left_by, without_call};
@@ -40,7 +40,8 @@ impl Parts {
     /// A call on a data queue without capacity has ended that of another task, if it has: that end comes first.
     pub(crate) fn end_handed(&mut self, done: &mut Done)
         requires { length done.old.ends.items < 32 }
-        ensures { (o : PartsOutcome) → Does self.old done.old o → Does self.new done.new (handed_over o) }
+        ensures few { length done.new.ends.items ≤ length done.old.ends.items + 1 }
+        ensures does { (o : PartsOutcome) → Does self.old done.old o → Does self.new done.new (handed_over o) }
     {
         if self.dtqs.handed().is_none() {
             return;

@@ -1,6 +1,6 @@
 //! What is left to do after the objects have done their part of a call.
 
-ghost use Rattle.std.specs.Prelude.{◌≡◌, ◌<◌, ◌^◌, false, length};
+ghost use Rattle.std.specs.Prelude.{◌≡◌, ◌<◌, ◌^◌, ◌≤◌, false, length};
 ghost use Rattle.it_types.specs.Callers.{is_poll};
 ghost use Rattle.k_kernel.specs.PartsRows.{done_by_objects, handed_over};
 ghost use Rattle.k_kernel.specs.Does.{Does};
@@ -24,7 +24,8 @@ impl Parts {
         requires room { is_poll tmo ≡ false → length self.old.waits < 16 }
         requires now { self.old.clock.now < 2 ^ 60 }
         requires ranks { self.old.tasks.next_rank < 2 ^ 60 }
-        ensures { Does self.new result (done_by_objects self.old ctx synced reason tmo no) }
+        ensures does { Does self.new result (done_by_objects self.old ctx synced reason tmo no) }
+        ensures few { length result.ends.items ≤ 1 }
     {
         match synced {
             Synced::Took(code, bytes) => answered(KAns::Now(code, bytes)),
@@ -45,7 +46,8 @@ impl Parts {
         requires room { is_poll tmo ≡ false → length self.old.waits < 16 }
         requires now { self.old.clock.now < 2 ^ 60 }
         requires ranks { self.old.tasks.next_rank < 2 ^ 60 }
-        ensures { Does self.new result (handed_over (done_by_objects self.old ctx synced reason tmo no)) }
+        ensures does { Does self.new result (handed_over (done_by_objects self.old ctx synced reason tmo no)) }
+        ensures few { length result.ends.items ≤ 1 }
     {
         let mut done = self.answer_or_accept(ctx, synced, reason, tmo, no);
         self.end_handed(&mut done);

@@ -1,6 +1,6 @@
 //! The rows of the kernel's calls: each part does its part.
 
-ghost use Rattle.std.specs.Prelude.{ℕ, ◌≡◌, ◌<◌, ◌^◌, ◌&&◌, [], None, false, not};
+ghost use Rattle.std.specs.Prelude.{ℕ, ◌≡◌, ◌<◌, ◌^◌, ◌≤◌, ◌&&◌, [], None, false, length, not};
 ghost use Rattle.it_types.specs.declared.kernel_request.KReq.{KReq as AKReq};
 ghost use Rattle.it_types.specs.Callers.{is_handler, nobody};
 ghost use Rattle.spec_kernel.specs.declared.outcome.KAns.TheVariants.{Now};
@@ -62,7 +62,8 @@ impl Parts {
         requires now { self.old.clock.now < 2 ^ 60 }
         requires ranks { self.old.tasks.next_rank < 2 ^ 60 }
         requires time { (ms : ℕ) → req.now ≡ AKReq.SetTim ms → ms < 2 ^ 63 }
-        ensures { Does self.new result (row self.old ctx req.now no) }
+        ensures does { Does self.new result (row self.old ctx req.now no) }
+        ensures few { length result.ends.items ≤ 1 }
     {
         if ctx.is_handler() && !is_a_handlers(req) {
             coded(E_CTX)
@@ -79,7 +80,8 @@ impl Parts {
         requires now { self.old.clock.now < 2 ^ 60 }
         requires ranks { self.old.tasks.next_rank < 2 ^ 60 }
         requires time { (ms : ℕ) → req.now ≡ AKReq.SetTim ms → ms < 2 ^ 63 }
-        ensures { Does self.new result (carried_out self.old ctx req.now no) }
+        ensures does { Does self.new result (carried_out self.old ctx req.now no) }
+        ensures few { length result.ends.items ≤ 1 }
     {
         match *req {
             KReq::ActTsk { task } => {

@@ -106,13 +106,14 @@ impl Parts {
 
     /// While a call is named, it ends.
     pub(crate) fn settle(&mut self, done: &mut Done)
-        requires { length done.old.ends.items + length self.old.waits ≤ 32 }
+        requires { length done.old.ends.items ≤ 16 }
         ensures parts { self.new ≡ (settle (length self.old.waits) self.old).0 }
         ensures ends { done.new.ends.items ≡ done.old.ends.items ++ (settle (length self.old.waits) self.old).1 }
         ensures answer { done.new.ans ≡ done.old.ans }
         ensures gone { done.new.gone ≡ done.old.gone }
         ensures begun { done.new.begun ≡ done.old.begun }
     {
+        let _ = self.waits.len();
         while let Some(wait) = self.take_next() {
             let end = self.end(wait);
             done.ends.push(end);

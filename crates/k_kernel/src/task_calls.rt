@@ -1,6 +1,6 @@
 //! What is left to do after the tasks have done their part of a call.
 
-ghost use Rattle.std.specs.Prelude.{◌≡◌, ◌<◌, ◌^◌, false, length};
+ghost use Rattle.std.specs.Prelude.{◌≡◌, ◌<◌, ◌^◌, ◌≤◌, false, length};
 ghost use Rattle.it_types.specs.Callers.{is_poll};
 ghost use Rattle.k_kernel.specs.PartsRows.{done_at_once, waits_or_done};
 ghost use Rattle.k_kernel.specs.Does.{Does};
@@ -15,7 +15,8 @@ use spec_kernel::{Did, WaitReason};
 impl Parts {
     /// A call that is met at once: the call that it has ended ends with `E_RLWAI`.
     pub(crate) fn finish(&mut self, ctx: Ctx, did: Did) -> Done
-        ensures { Does self.new result (done_at_once self.old ctx did) }
+        ensures does { Does self.new result (done_at_once self.old ctx did) }
+        ensures few { length result.ends.items ≤ 1 }
     {
         let mut ends = ArrayVec::new();
         if let Some(wait) = self.end_freed(did.freed) {
@@ -41,7 +42,8 @@ impl Parts {
         requires room { is_poll tmo ≡ false → length self.old.waits < 16 }
         requires now { self.old.clock.now < 2 ^ 60 }
         requires ranks { self.old.tasks.next_rank < 2 ^ 60 }
-        ensures { Does self.new result (waits_or_done self.old ctx did reason tmo no) }
+        ensures does { Does self.new result (waits_or_done self.old ctx did reason tmo no) }
+        ensures few { length result.ends.items ≤ 1 }
     {
         if did.wait {
             self.accept(ctx.caller(), reason, tmo, no)

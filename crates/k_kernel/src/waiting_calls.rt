@@ -1,6 +1,6 @@
 //! Calls on objects that may have to wait.
 
-ghost use Rattle.std.specs.Prelude.{◌≡◌, ◌<◌, ◌^◌, ◌||◌, None, false, true};
+ghost use Rattle.std.specs.Prelude.{◌≡◌, ◌<◌, ◌^◌, ◌≤◌, None, false, length};
 ghost use Rattle.it_types.specs.Callers.{caller, is_handler, is_poll};
 ghost use Rattle.spec_kernel.specs.declared.reason.WaitReason.{WaitReason as AWaitReason};
 ghost use Rattle.spec_kernel.specs.PlainQueues.{next_ready as next_at_queues};
@@ -32,7 +32,8 @@ impl Parts {
         requires caller { MayCall self.old ctx }
         requires now { self.old.clock.now < 2 ^ 60 }
         requires ranks { self.old.tasks.next_rank < 2 ^ 60 }
-        ensures { Does self.new result (done_by_semaphores self.old ctx (twai_sem self.old.sems sem tmo (caller ctx) (priority_in self.old ctx) self.old.tasks.next_rank) (AWaitReason.Semaphore sem) tmo no) }
+        ensures does { Does self.new result (done_by_semaphores self.old ctx (twai_sem self.old.sems sem tmo (caller ctx) (priority_in self.old ctx) self.old.tasks.next_rank) (AWaitReason.Semaphore sem) tmo no) }
+        ensures few { length result.ends.items ≤ 1 }
     {
         let pri = self.priority_in(ctx);
         let rank = self.tasks.next_rank();
@@ -54,7 +55,8 @@ impl Parts {
         requires caller { MayCall self.old ctx }
         requires now { self.old.clock.now < 2 ^ 60 }
         requires ranks { self.old.tasks.next_rank < 2 ^ 60 }
-        ensures { Does self.new result (done_by_flags self.old ctx (twai_flg self.old.flags flag bits all tmo (caller ctx) (priority_in self.old ctx) self.old.tasks.next_rank) (AWaitReason.Flag (record { flag = flag; bits = bits; all = all })) tmo no) }
+        ensures does { Does self.new result (done_by_flags self.old ctx (twai_flg self.old.flags flag bits all tmo (caller ctx) (priority_in self.old ctx) self.old.tasks.next_rank) (AWaitReason.Flag (record { flag = flag; bits = bits; all = all })) tmo no) }
+        ensures few { length result.ends.items ≤ 1 }
     {
         let pri = self.priority_in(ctx);
         let rank = self.tasks.next_rank();
@@ -79,7 +81,8 @@ impl Parts {
         requires caller { MayCall self.old ctx }
         requires now { self.old.clock.now < 2 ^ 60 }
         requires ranks { self.old.tasks.next_rank < 2 ^ 60 }
-        ensures { Does self.new result (done_by_queues self.old ctx (tsnd_dtq self.old.dtqs dtq item tmo (caller ctx) (priority_in self.old ctx) self.old.tasks.next_rank) (AWaitReason.Send dtq item) tmo no) }
+        ensures does { Does self.new result (done_by_queues self.old ctx (tsnd_dtq self.old.dtqs dtq item tmo (caller ctx) (priority_in self.old ctx) self.old.tasks.next_rank) (AWaitReason.Send dtq item) tmo no) }
+        ensures few { length result.ends.items ≤ 1 }
     {
         let pri = self.priority_in(ctx);
         let rank = self.tasks.next_rank();
@@ -96,7 +99,8 @@ impl Parts {
         requires caller { MayCall self.old ctx }
         requires now { self.old.clock.now < 2 ^ 60 }
         requires ranks { self.old.tasks.next_rank < 2 ^ 60 }
-        ensures { Does self.new result (done_by_queues self.old ctx (trcv_dtq self.old.dtqs dtq tmo (caller ctx) (priority_in self.old ctx) self.old.tasks.next_rank) (AWaitReason.Receive dtq) tmo no) }
+        ensures does { Does self.new result (done_by_queues self.old ctx (trcv_dtq self.old.dtqs dtq tmo (caller ctx) (priority_in self.old ctx) self.old.tasks.next_rank) (AWaitReason.Receive dtq) tmo no) }
+        ensures few { length result.ends.items ≤ 1 }
     {
         let pri = self.priority_in(ctx);
         let rank = self.tasks.next_rank();
@@ -107,7 +111,8 @@ impl Parts {
     /// Gives a task a priority (µITRON4.0 section 4.1, `chg_pri`); its call that waits by priority is the last there.
     pub(crate) fn chg_pri(&mut self, ctx: Ctx, task: TaskId, pri: u32) -> Done
         requires ranks { self.old.tasks.next_rank < 2 ^ 60 }
-        ensures { Does self.new result (reprioritised self.old ctx task (chg_pri self.old.tasks ctx task pri)) }
+        ensures does { Does self.new result (reprioritised self.old ctx task (chg_pri self.old.tasks ctx task pri)) }
+        ensures few { length result.ends.items ≤ 1 }
     {
         let did = self.tasks.chg_pri(ctx, task, pri);
         let done = self.finish(ctx, did);
