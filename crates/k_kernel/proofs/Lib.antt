@@ -1,7 +1,8 @@
 pub mod Calling
 pub mod RowsAgreeSeen
-pub mod RowsAgreeTaskCalls
 pub mod RowsAgreeTasks
+pub mod RowsAgreeTaskCalls
+pub mod RowsAgreeWaits
 pub mod Scan
 pub mod Soonest
 pub mod Turning
