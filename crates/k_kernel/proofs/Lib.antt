@@ -3,6 +3,7 @@ pub mod RowsAgreeSeen
 pub mod RowsAgreeTasks
 pub mod RowsAgreeTaskCalls
 pub mod RowsAgreeWaits
+pub mod RowsAgreeObjects
 pub mod Scan
 pub mod Soonest
 pub mod Turning
