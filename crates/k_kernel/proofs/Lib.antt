@@ -9,3 +9,4 @@ pub mod Soonest
 pub mod Turning
 pub mod Views
 pub mod NextAgrees
+pub mod SettleAgrees
