@@ -10,3 +10,4 @@ pub mod Turning
 pub mod Views
 pub mod NextAgrees
 pub mod SettleAgrees
+pub mod EndAgrees

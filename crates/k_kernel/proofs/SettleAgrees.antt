@@ -106,7 +106,7 @@ elsewhere_left kind k f (w ∷ ws) z e other = elim (some_parts f w ws z e) [
 -- ---- the end of a wait, as the tasks see it
 
 module _ (d : PlainTasks) (t : TaskId) where
-  released_is : released d t ≡ record d { waits = slice_set d.waits t.0 None; runnable = (released d t).runnable }
+  pub released_is : released d t ≡ record d { waits = slice_set d.waits t.0 None; runnable = (released d t).runnable }
   released_is = elim (cases_Bool (is_suspended (block_of d t))) [
     | inl h ↦ rw h refl
     | inr h ↦ rw h refl
