@@ -1,14 +1,12 @@
 -- The ends of waiting calls as the parts of a kernel make them are the whole kernel's: with the same code and bytes, and each part sees of
 -- the kernel after them what it has kept itself.
-use Rattle.std.proofs.Common.{◌≡◌, ℕ, zero, suc, ◌≤◌, Bool, true, false, List, [], ◌∷◌, length, Option, Some, None, is_some, refl, ap, sym, ◌∙◌, subst, inl, inr}
+use Rattle.std.proofs.Common.{◌≡◌, ℕ, zero, suc, Bool, true, false, List, [], ◌∷◌, Option, Some, None, is_some, refl, ap, sym, ◌∙◌, inl, inr}
 use Rattle.std.specs.Prelude.{slice_set}
-use Rattle.std.proofs.lemmas.Bool.{cases_Bool, cases_eq, cases_lt}
-use Rattle.std.proofs.lemmas.List.{get_or-set_same, get_or_past, length-set}
+use Rattle.std.proofs.lemmas.Bool.{cases_Bool}
 use Rattle.it_types.specs.declared.id.TaskId.{TaskId}
 use Rattle.it_types.specs.declared.er.TheConstants.{E_OK}
 use Rattle.spec_lists.specs.Tables.{get, change}
 use Rattle.spec_lists.specs.First.{take_first}
-use Rattle.spec_lists.proofs.Changes.{get-change_other}
 use Rattle.spec_lists.proofs.Firsts.{some_parts}
 use Rattle.spec_kernel.specs.declared.outcome.KEnd.{KEnd}
 use Rattle.spec_kernel.specs.declared.reason.WaitReason.{WaitReason}
@@ -36,19 +34,10 @@ use Rattle.laws_calls.proofs.Stands.{freed_stands}
 use Rattle.k_kernel.specs.PartsSettle.{next_at, next_call, bytes_told, end_told, semaphores_let_go, flags_let_go, queues_let_go, freed_call, turn, settle}
 use Rattle.k_kernel.proofs.Views.{waiters_among, same_waiters, waits_left}
 use Rattle.k_kernel.proofs.NextAgrees.{first_of_both, first_of_kind, seen, semaphores_find, flags_find, queues_find, sees_found, next_agrees}
+use Rattle.k_kernel.proofs.RowsAgreeObjects.{order_kept as kept_by_change}
 use Rattle.k_kernel.proofs.RowsAgreeTasks.{same_parts, priorities_kept}
 
 -- ---- what doesn't change
-
--- what a change leaves of an object that it keeps
-pub kept_by_change : {X Y : Type 0} (f : Option X → Option X) (part : Option X → Y) → ((o : Option X) → part (f o) ≡ part o) → (xs : List (Option X)) (i j : ℕ) → part (get (change xs i f) j) ≡ part (get xs j)
-kept_by_change f part same xs i j = elim (cases_eq j i) [
-  | inl e ↦ subst (λ n. part (get (change xs i f) n) ≡ part (get xs n)) (sym e) (elim (cases_lt i (length xs)) [
-    | inl inside ↦ ap part (get_or-set_same xs i (f (get xs i)) None inside) ∙ same (get xs i)
-    | inr past ↦ ap part (get_or_past (change xs i f) i None (subst (λ n. n ≤ i) (sym (length-set xs i (f (get xs i)))) past) ∙ sym (get_or_past xs i None past))
-  ])
-  | inr ne ↦ ap part (get-change_other xs i j f ne)
-]
 
 -- what a task takes leaves the order of each queue as it was declared
 pub order_kept : (o : PlainObjects) (r u : WaitReason) → is_by_priority (taken o r) u ≡ is_by_priority o u
@@ -59,7 +48,7 @@ order_kept o r (reasons.Semaphore s) = of r
     less (Some x) = refl
 
     of : (r : WaitReason) → semaphore_by_priority (get (semaphores_after r o.semaphores) s.0) ≡ semaphore_by_priority (get o.semaphores s.0)
-    of (reasons.Semaphore t) = kept_by_change one_less semaphore_by_priority less o.semaphores t.0 s.0
+    of (reasons.Semaphore t) = kept_by_change semaphore_by_priority one_less less o.semaphores t.0 s.0
     of r = refl
 order_kept o r (reasons.Flag w) = of r
   where
@@ -68,7 +57,7 @@ order_kept o r (reasons.Flag w) = of r
     less (Some x) = refl
 
     of : (r : WaitReason) → flag_by_priority (get (flags_after r o.flags) w.flag.0) ≡ flag_by_priority (get o.flags w.flag.0)
-    of (reasons.Flag v) = kept_by_change flag_released flag_by_priority less o.flags v.flag.0 w.flag.0
+    of (reasons.Flag v) = kept_by_change flag_by_priority flag_released less o.flags v.flag.0 w.flag.0
     of r = refl
 order_kept o r (reasons.Send q item) = of r
   where
@@ -81,8 +70,8 @@ order_kept o r (reasons.Send q item) = of r
     less (Some x) = refl
 
     of : (r : WaitReason) → sends_by_priority (get (queues_after r o.queues) q.0) ≡ sends_by_priority (get o.queues q.0)
-    of (reasons.Send t put) = kept_by_change (with_item put) sends_by_priority (more put) o.queues t.0 q.0
-    of (reasons.Receive t) = kept_by_change item_taken sends_by_priority less o.queues t.0 q.0
+    of (reasons.Send t put) = kept_by_change sends_by_priority (with_item put) (more put) o.queues t.0 q.0
+    of (reasons.Receive t) = kept_by_change sends_by_priority item_taken less o.queues t.0 q.0
     of r = refl
 order_kept o r u = refl
 
