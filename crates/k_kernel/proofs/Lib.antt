@@ -4,6 +4,7 @@ pub mod RowsAgreeTasks
 pub mod RowsAgreeTaskCalls
 pub mod RowsAgreeWaits
 pub mod RowsAgreeObjects
+pub mod RowsAgreeQueues
 pub mod Scan
 pub mod Soonest
 pub mod Turning

@@ -105,10 +105,10 @@ objects_agree k o same =
     seen : (kind : WaitReason → Bool) → waiters_among kind (with_objects k o) k.waits ≡ waiters_among kind k k.waits
     seen kind = same_seen kind k (with_objects k o) k.waits (alike_by_order kind k (with_objects k o) k.waits refl (λ r e. same_order k.objects o same r))
 
-joined_poll : (w : Waiter) (tmo : Tmo) (ws : List Waiter) → is_poll tmo ≡ true → joined_by w tmo ws ≡ ws
+pub joined_poll : (w : Waiter) (tmo : Tmo) (ws : List Waiter) → is_poll tmo ≡ true → joined_by w tmo ws ≡ ws
 joined_poll w tmo ws e = rw e refl
 
-joined_wait : (w : Waiter) (tmo : Tmo) (ws : List Waiter) → is_poll tmo ≡ false → joined_by w tmo ws ≡ ws ++ w ∷ []
+pub joined_wait : (w : Waiter) (tmo : Tmo) (ws : List Waiter) → is_poll tmo ≡ false → joined_by w tmo ws ≡ ws ++ w ∷ []
 joined_wait w tmo ws e = rw e refl
 
 module _ (k : WholeKernel) (s : IsStanding k) (ctx : Ctx) (number : CallNo) where

@@ -42,11 +42,11 @@ nothing_there waits i e = ap (λ o. slice_set waits i o) (sym (of (get waits i) 
     of None e = refl
     of (Some w) e = cc
 
-unless_tasks : (b : Bool) (d : PlainTasks) (t : TaskId) → (joining_unless b d t).tasks ≡ d.tasks
+pub unless_tasks : (b : Bool) (d : PlainTasks) (t : TaskId) → (joining_unless b d t).tasks ≡ d.tasks
 unless_tasks true d t = refl
 unless_tasks false d t = refl
 
-unless_waits : (b : Bool) (d : PlainTasks) (t : TaskId) → (joining_unless b d t).waits ≡ d.waits
+pub unless_waits : (b : Bool) (d : PlainTasks) (t : TaskId) → (joining_unless b d t).waits ≡ d.waits
 unless_waits true d t = refl
 unless_waits false d t = refl
 
