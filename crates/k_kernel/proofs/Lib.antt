@@ -12,3 +12,4 @@ pub mod Views
 pub mod NextAgrees
 pub mod SettleAgrees
 pub mod EndAgrees
+pub mod Tying

@@ -1,0 +1,130 @@
+-- The parts of a running kernel after each of its calls are those of the whole kernel after it, which stands and rests again.
+use Rattle.std.proofs.Common.{◌≡◌, ◌≢◌, Bool, List, [], ◌++◌, length, Some, refl, ap, sym, ◌∙◌, subst}
+use Rattle.it_types.specs.declared.id.TaskId.{TaskId}
+use Rattle.it_types.specs.declared.id.CallNo.{CallNo}
+use Rattle.it_types.specs.declared.timeout.Tmo.{Tmo}
+use Rattle.it_types.specs.declared.context.Ctx.{Ctx}
+use Rattle.it_types.specs.declared.kernel_request.KReq.{KReq}
+use Rattle.spec_lists.specs.First.{take_first}
+use Rattle.spec_kernel.specs.declared.outcome.KEnd.{KEnd}
+use Rattle.spec_kernel.specs.declared.reason.WaitReason.TheVariants as reasons
+use Rattle.spec_kernel.specs.declared.reason.WaitingCall.{WaitingCall}
+use Rattle.spec_kernel.specs.PlainTasks.{running}
+use Rattle.spec_kernel.specs.PlainClock.{ticked_clock}
+use Rattle.spec_kernel.specs.WholeKernel.{WholeKernel, tasks_of}
+use Rattle.spec_kernel.specs.WholeSettle.{WholeOutcome, ended, AtRest, settled}
+use Rattle.spec_kernel.specs.WholeRows.{row, call, ticked, tick}
+use Rattle.spec_kernel.specs.WholeTime.{blocked}
+use Rattle.spec_kernel.specs.WholeParts.{PlainParts, parts_of, whole_of}
+use Rattle.spec_kernel.specs.WholeStanding.{IsStanding}
+use Rattle.laws_calls.specs.Calling.{Calls}
+use Rattle.laws_calls.proofs.Settling.{call_rests, tick_rests}
+use Rattle.laws_calls.proofs.Standing.{ended_stands}
+use Rattle.laws_calls.proofs.Stands.{row_stands, call_stands, tick_stands, blocked_stands}
+use Rattle.laws_calls.proofs.Resting.{tick_alone, ended_rests, blocked_rests}
+use Rattle.k_kernel.specs.Tied.{Tied}
+use Rattle.k_kernel.specs.Does.{Does}
+use Rattle.k_kernel.specs.Kernel.{DoesWhole}
+use Rattle.k_kernel.specs.declared.done.Done.{Done}
+use Rattle.k_kernel.specs.PartsRows.{PartsOutcome, row as parts_row, with_wait as parts_with_wait}
+use Rattle.k_kernel.specs.PartsSettle.{settle}
+use Rattle.k_kernel.specs.PartsTime.{ended_call}
+use Rattle.k_kernel.proofs.RowsAgreeSeen.{told}
+use Rattle.k_kernel.proofs.SettleAgrees.{settle_agrees}
+use Rattle.k_kernel.proofs.EndAgrees.{ended_agrees, blocked_agrees}
+
+-- the parts of a kernel that stands and rests
+pub tied : (k : WholeKernel) → IsStanding k → AtRest k → Tied (parts_of k)
+tied k s rest = record { agree = refl; standing = s; rest = rest }
+
+-- and what else is said of them
+pub record IsTiedTo (p : PlainParts) (k : WholeKernel) : Type 0 where
+  pub whole : whole_of p ≡ k
+  pub tied : Tied p
+
+pub tied_to : (p : PlainParts) (k : WholeKernel) → p ≡ parts_of k → IsStanding k → AtRest k → IsTiedTo p k
+tied_to p k e s rest = record { whole = ap whole_of e; tied = subst Tied (sym e) (tied k s rest) }
+
+-- ---- settling
+
+-- what settling makes of parts, after some ends, is what the outcome tells
+pub record SettlesTo (p : PlainParts) (before : List KEnd) (o : WholeOutcome) : Type 0 where
+  pub parts : (settle (length p.waits) p).0 ≡ parts_of o.kernel
+  pub ends : before ++ (settle (length p.waits) p).1 ≡ o.ends
+
+pub settled_agrees : (o : WholeOutcome) → IsStanding o.kernel → SettlesTo (parts_of o.kernel) o.ends (settled o)
+unfolding settled
+settled_agrees o s =
+    let all = settle_agrees (length o.kernel.waits) o.kernel s in
+    record { parts = ap (λ (r : PlainParts × List KEnd). r.0) all; ends = ap (λ (r : PlainParts × List KEnd). o.ends ++ r.1) all }
+
+-- ---- a call
+
+-- the kernel after it, and what it tells
+pub record IsCalled (new : PlainParts) (done : Done) (o : WholeOutcome) : Type 0 where
+  pub does : DoesWhole (whole_of new) done o
+  pub tied : Tied new
+
+-- its row, where the parts' row is the whole kernel's, and the ends of all calls that are met then
+module _ (p : PlainParts) (t : Tied p) (ctx : Ctx) (request : KReq) (number : CallNo) (calls : Calls (whole_of p) ctx) (same : parts_row p ctx request number ≡ told (row (whole_of p) ctx request number)) where
+  settles : SettlesTo (parts_row p ctx request number).parts (parts_row p ctx request number).ends (call (whole_of p) ctx request number)
+  unfolding call
+  settles = rw same (settled_agrees (row (whole_of p) ctx request number) (row_stands (whole_of p) ctx request number t.standing calls))
+
+  pub called : (mid new : PlainParts) (before after : Done)
+      → Does mid before (parts_row p ctx request number)
+      → new ≡ (settle (length mid.waits) mid).0
+      → after.ends.items ≡ before.ends.items ++ (settle (length mid.waits) mid).1
+      → after.ans ≡ before.ans
+      → after.gone ≡ before.gone
+      → after.begun ≡ before.begun
+      → IsCalled new after (call (whole_of p) ctx request number)
+  unfolding call settled
+  called mid new before after row_does parts ends answer gone begun =
+      let k : WholeKernel = (call (whole_of p) ctx request number).kernel in
+      let is : new ≡ parts_of k = parts ∙ ap (λ (q : PlainParts). (settle (length q.waits) q).0) row_does.parts ∙ settles.parts in
+      let to : IsTiedTo new k = tied_to new k is (call_stands (whole_of p) ctx request number t.standing calls) (call_rests (whole_of p) ctx request number) in
+      record {
+        does = record {
+          kernel = to.whole;
+          answer = answer ∙ row_does.answer ∙ ap (λ (o : PartsOutcome). o.answer) same;
+          ends = ends ∙ ap (λ (q : PlainParts). before.ends.items ++ (settle (length q.waits) q).1) row_does.parts ∙ ap (λ es. es ++ (settle (length (parts_row p ctx request number).parts.waits) (parts_row p ctx request number).parts).1) row_does.ends ∙ settles.ends;
+          gone = gone ∙ row_does.gone ∙ ap (λ (o : PartsOutcome). o.gone) same;
+          begun = begun ∙ row_does.begun ∙ ap (λ (o : PartsOutcome). o.begun) same;
+        };
+        tied = to.tied;
+      }
+
+module _ (p : PlainParts) (t : Tied p) where
+  -- ---- a tick
+
+  pub ticks : (new : PlainParts) → new ≡ record p { clock = ticked_clock p.clock } → IsTiedTo new (tick (whole_of p)).kernel
+  ticks new e =
+      let k : WholeKernel = (tick (whole_of p)).kernel in
+      let is : k ≡ ticked (whole_of p) = ap (λ (o : WholeOutcome). o.kernel) (tick_alone (whole_of p) t.rest) in
+      tied_to new k (e ∙ ap (λ (q : PlainParts). record q { clock = ticked_clock p.clock }) t.agree ∙ ap parts_of (sym is)) (tick_stands (whole_of p) t.standing) (tick_rests (whole_of p))
+
+  -- no call ends then
+  pub tick_ends_none : (tick (whole_of p)).ends ≡ []
+  tick_ends_none = ap (λ (o : WholeOutcome). o.ends) (tick_alone (whole_of p) t.rest)
+
+  -- ---- a wait for a call of the network part
+
+  pub blocks : (new : PlainParts) (task : TaskId) (tmo : Tmo) (number : CallNo)
+      → task.0 ≢ 0
+      → running (tasks_of (whole_of p)) ≡ task
+      → new ≡ parts_with_wait p task reasons.Outside tmo number
+      → IsTiedTo new (blocked (whole_of p) task tmo number)
+  blocks new task tmo number some runs e = tied_to new (blocked (whole_of p) task tmo number)
+      (e ∙ ap (λ q. parts_with_wait q task reasons.Outside tmo number) t.agree ∙ blocked_agrees (whole_of p) task tmo number some runs t.standing)
+      (blocked_stands (whole_of p) task tmo number some runs t.standing) (blocked_rests (whole_of p) task tmo number t.rest)
+
+  -- ---- a wait that ends by itself
+
+  pub ends_alone : (new : PlainParts) (f : WaitingCall → Bool) (w : WaitingCall) (others : List WaitingCall)
+      → take_first f p.waits ≡ Some (w, others)
+      → new ≡ ended_call p w others
+      → IsTiedTo new (ended (whole_of p) w others)
+  ends_alone new f w others found e = tied_to new (ended (whole_of p) w others)
+      (e ∙ ap (λ q. ended_call q w others) t.agree ∙ ended_agrees (whole_of p) f w others found t.standing t.rest)
+      (ended_stands (whole_of p) f w others found t.standing) (ended_rests (whole_of p) f w others found t.rest)
