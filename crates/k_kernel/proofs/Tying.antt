@@ -1,5 +1,5 @@
 -- The parts of a running kernel after each of its calls are those of the whole kernel after it, which stands and rests again.
-use Rattle.std.proofs.Common.{◌≡◌, ◌≢◌, Bool, List, [], ◌++◌, length, Some, refl, ap, sym, ◌∙◌, subst}
+use Rattle.std.proofs.Common.{◌≡◌, ◌≢◌, Bool, true, false, List, [], ◌++◌, length, Some, None, refl, ap, sym, ◌∙◌, subst}
 use Rattle.it_types.specs.declared.id.TaskId.{TaskId}
 use Rattle.it_types.specs.declared.id.CallNo.{CallNo}
 use Rattle.it_types.specs.declared.timeout.Tmo.{Tmo}
@@ -12,26 +12,27 @@ use Rattle.spec_kernel.specs.declared.reason.WaitingCall.{WaitingCall}
 use Rattle.spec_kernel.specs.PlainTasks.{running}
 use Rattle.spec_kernel.specs.PlainClock.{ticked_clock}
 use Rattle.spec_kernel.specs.WholeKernel.{WholeKernel, tasks_of}
-use Rattle.spec_kernel.specs.WholeSettle.{WholeOutcome, ended, AtRest, settled}
+use Rattle.spec_kernel.specs.WholeSettle.{WholeOutcome, ending, ended, AtRest, settled}
 use Rattle.spec_kernel.specs.WholeRows.{row, call, ticked, tick}
-use Rattle.spec_kernel.specs.WholeTime.{blocked}
+use Rattle.spec_kernel.specs.WholeTime.{is_next_past, code_by_time, due_of, due, blocked, is_outside_of, unblocked_at, unblocked}
 use Rattle.spec_kernel.specs.WholeParts.{PlainParts, parts_of, whole_of}
 use Rattle.spec_kernel.specs.WholeStanding.{IsStanding}
 use Rattle.laws_calls.specs.Calling.{Calls}
 use Rattle.laws_calls.proofs.Settling.{call_rests, tick_rests}
 use Rattle.laws_calls.proofs.Standing.{ended_stands}
 use Rattle.laws_calls.proofs.Stands.{row_stands, call_stands, tick_stands, blocked_stands}
-use Rattle.laws_calls.proofs.Resting.{tick_alone, ended_rests, blocked_rests}
+use Rattle.laws_calls.proofs.Resting.{tick_alone, due_alone, ended_rests, blocked_rests}
+use Rattle.k_kernel.specs.Callers.{MayCall, MayCallAs}
 use Rattle.k_kernel.specs.Tied.{Tied}
 use Rattle.k_kernel.specs.Does.{Does}
-use Rattle.k_kernel.specs.Kernel.{DoesWhole}
+use Rattle.k_kernel.specs.Kernel.{DoesWhole, ended_alone}
 use Rattle.k_kernel.specs.declared.done.Done.{Done}
 use Rattle.k_kernel.specs.PartsRows.{PartsOutcome, row as parts_row, with_wait as parts_with_wait}
 use Rattle.k_kernel.specs.PartsSettle.{settle}
 use Rattle.k_kernel.specs.PartsTime.{ended_call}
 use Rattle.k_kernel.proofs.RowsAgreeSeen.{told}
 use Rattle.k_kernel.proofs.SettleAgrees.{settle_agrees}
-use Rattle.k_kernel.proofs.EndAgrees.{ended_agrees, blocked_agrees}
+use Rattle.k_kernel.proofs.EndAgrees.{PartsRest, rests_parts, ended_agrees, may_call, calls_may, blocked_agrees}
 
 -- the parts of a kernel that stands and rests
 pub tied : (k : WholeKernel) → IsStanding k → AtRest k → Tied (parts_of k)
@@ -96,6 +97,19 @@ module _ (p : PlainParts) (t : Tied p) (ctx : Ctx) (request : KReq) (number : Ca
       }
 
 module _ (p : PlainParts) (t : Tied p) where
+  -- ---- before a call
+
+  -- no part names a call
+  pub rests : PartsRest p
+  rests = subst PartsRest (sym t.agree) (rests_parts (whole_of p) t.rest)
+
+  -- who calls the whole kernel may call the parts
+  pub may : (ctx : Ctx) → Calls (whole_of p) ctx → MayCall p ctx
+  may ctx calls = subst (λ q. MayCall q ctx) (sym t.agree) (calls_may (whole_of p) ctx t.standing calls)
+
+  pub may_as : (task : TaskId) → task.0 ≢ 0 → running (tasks_of (whole_of p)) ≡ task → MayCallAs p task
+  may_as task some runs = subst (λ q. MayCallAs q task) (sym t.agree) (may_call (whole_of p) task t.standing some runs)
+
   -- ---- a tick
 
   pub ticks : (new : PlainParts) → new ≡ record p { clock = ticked_clock p.clock } → IsTiedTo new (tick (whole_of p)).kernel
@@ -128,3 +142,27 @@ module _ (p : PlainParts) (t : Tied p) where
   ends_alone new f w others found e = tied_to new (ended (whole_of p) w others)
       (e ∙ ap (λ q. ended_call q w others) t.agree ∙ ended_agrees (whole_of p) f w others found t.standing t.rest)
       (ended_stands (whole_of p) f w others found t.standing) (ended_rests (whole_of p) f w others found t.rest)
+
+  -- by time: the call of the least number whose deadline is past
+  pub due_none : take_first (is_next_past p.clock.now p.waits) p.waits ≡ None → due (whole_of p) ≡ None
+  unfolding due
+  due_none none = ap (due_of (whole_of p)) none
+
+  pub due_one : (new : PlainParts) (w : WaitingCall) (others : List WaitingCall)
+      → take_first (is_next_past p.clock.now p.waits) p.waits ≡ Some (w, others)
+      → new ≡ ended_call p w others
+      → due (whole_of p) ≡ Some (ended_alone (whole_of new) (ending w (code_by_time w.reason) []))
+  due_one new w others found e =
+      due_alone (whole_of p) (w, others) t.rest found ∙ ap (λ k. Some (ended_alone k (ending w (code_by_time w.reason) []))) (sym (ends_alone new (is_next_past p.clock.now p.waits) w others found e).whole)
+
+  -- by the network part
+  pub unblocks_none : (task : TaskId) → take_first (is_outside_of task) p.waits ≡ None → unblocked (whole_of p) task ≡ (whole_of p, false)
+  unfolding unblocked
+  unblocks_none task none = ap (unblocked_at (whole_of p)) none
+
+  pub unblocks : (new : PlainParts) (task : TaskId) (w : WaitingCall) (others : List WaitingCall)
+      → take_first (is_outside_of task) p.waits ≡ Some (w, others)
+      → new ≡ ended_call p w others
+      → unblocked (whole_of p) task ≡ (whole_of new, true)
+  unfolding unblocked
+  unblocks new task w others found e = ap (unblocked_at (whole_of p)) found ∙ ap (λ k. (k, true)) (sym (ends_alone new (is_outside_of task) w others found e).whole)
