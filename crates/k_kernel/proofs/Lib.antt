@@ -5,6 +5,7 @@ pub mod RowsAgreeTaskCalls
 pub mod RowsAgreeWaits
 pub mod RowsAgreeObjects
 pub mod RowsAgreeQueues
+pub mod RowsAgreePriority
 pub mod Scan
 pub mod Soonest
 pub mod Turning

@@ -46,7 +46,7 @@ module _ (kind : WaitReason → Bool) (k : WholeKernel) where
   ]
 
   -- a task that doesn't wait is found at no object
-  nobody_found : (ws : List WaitingCall) (t : TaskId) → times waiting_number t.0 ws ≡ 0 → take_first (is_task t) (waiters_among kind k ws) ≡ None
+  pub nobody_found : (ws : List WaitingCall) (t : TaskId) → times waiting_number t.0 ws ≡ 0 → take_first (is_task t) (waiters_among kind k ws) ≡ None
   nobody_found [] t none = refl
   nobody_found (v ∷ ws) t none = elim (cases_eq v.task.0 t.0) [
     | inl same ↦ absurd (omega (arith, none, one_if-same v.task.0 t.0 same))
