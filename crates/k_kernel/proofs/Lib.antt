@@ -6,6 +6,7 @@ pub mod RowsAgreeWaits
 pub mod RowsAgreeObjects
 pub mod RowsAgreeQueues
 pub mod RowsAgreePriority
+pub mod RowsAgree
 pub mod Scan
 pub mod Soonest
 pub mod Turning
