@@ -1,26 +1,34 @@
 -- The parts of a running kernel after each of its calls are those of the whole kernel after it, which stands and rests again.
-use Rattle.std.proofs.Common.{◌≡◌, ◌≢◌, Bool, true, false, List, [], ◌++◌, length, Some, None, refl, ap, sym, ◌∙◌, subst}
+use Rattle.std.proofs.Common.{◌≡◌, ◌≢◌, Bool, true, false, not, List, [], ◌∷◌, ◌++◌, slice_set, length, Some, None, refl, ap, sym, ◌∙◌, subst}
 use Rattle.it_types.specs.declared.id.TaskId.{TaskId}
 use Rattle.it_types.specs.declared.id.CallNo.{CallNo}
 use Rattle.it_types.specs.declared.timeout.Tmo.{Tmo}
 use Rattle.it_types.specs.declared.context.Ctx.{Ctx}
 use Rattle.it_types.specs.declared.kernel_request.KReq.{KReq}
+use Rattle.it_types.specs.declared.conf.KConf.{KConf}
+use Rattle.it_types.specs.declared.conf.TaskDecl.{TaskDecl}
 use Rattle.spec_lists.specs.First.{take_first}
 use Rattle.spec_kernel.specs.declared.outcome.KEnd.{KEnd}
 use Rattle.spec_kernel.specs.declared.reason.WaitReason.TheVariants as reasons
 use Rattle.spec_kernel.specs.declared.reason.WaitingCall.{WaitingCall}
-use Rattle.spec_kernel.specs.PlainTasks.{running}
-use Rattle.spec_kernel.specs.PlainClock.{ticked_clock}
+use Rattle.spec_kernel.specs.PlainTasks.{PlainTasks, joining_unless, running}
+use Rattle.spec_kernel.specs.TaskOpening.{block_at_start, no_tasks, declared, all_declared, opened_tasks}
+use Rattle.spec_kernel.specs.PlainSemaphores.{opened as opened_semaphores}
+use Rattle.spec_kernel.specs.PlainFlags.{opened as opened_flags}
+use Rattle.spec_kernel.specs.PlainQueues.{opened as opened_queues}
+use Rattle.spec_kernel.specs.PlainClock.{opened_clock, ticked_clock}
 use Rattle.spec_kernel.specs.WholeKernel.{WholeKernel, tasks_of}
 use Rattle.spec_kernel.specs.WholeSettle.{WholeOutcome, ending, ended, AtRest, settled}
 use Rattle.spec_kernel.specs.WholeRows.{row, call, ticked, tick}
 use Rattle.spec_kernel.specs.WholeTime.{is_next_past, code_by_time, due_of, due, blocked, is_outside_of, unblocked_at, unblocked}
 use Rattle.spec_kernel.specs.WholeParts.{PlainParts, parts_of, whole_of}
 use Rattle.spec_kernel.specs.WholeStanding.{IsStanding}
+use Rattle.spec_kernel.specs.WholeOpening.{IsWholeDeclarable, opened}
 use Rattle.laws_calls.specs.Calling.{Calls}
 use Rattle.laws_calls.proofs.Settling.{call_rests, tick_rests}
 use Rattle.laws_calls.proofs.Standing.{ended_stands}
 use Rattle.laws_calls.proofs.Stands.{row_stands, call_stands, tick_stands, blocked_stands}
+use Rattle.laws_calls.proofs.Opened.{opened_stands}
 use Rattle.laws_calls.proofs.Resting.{tick_alone, due_alone, ended_rests, blocked_rests}
 use Rattle.k_kernel.specs.Callers.{MayCall, MayCallAs}
 use Rattle.k_kernel.specs.Tied.{Tied}
@@ -45,6 +53,35 @@ pub record IsTiedTo (p : PlainParts) (k : WholeKernel) : Type 0 where
 
 pub tied_to : (p : PlainParts) (k : WholeKernel) → p ≡ parts_of k → IsStanding k → AtRest k → IsTiedTo p k
 tied_to p k e s rest = record { whole = ap whole_of e; tied = subst Tied (sym e) (tied k s rest) }
+
+-- ---- the opening
+
+-- at the opening nobody waits, as the tasks see it
+opened_waits : (cs : List TaskDecl) (d : PlainTasks) → (all_declared cs d).waits ≡ d.waits
+opened_waits [] d = refl
+opened_waits (c ∷ cs) d = opened_waits cs (declared d c) ∙ of (not c.act)
+  where
+    of : (b : Bool) → (joining_unless b (record d { tasks = slice_set d.tasks c.id (Some (block_at_start c)) }) (record { 0 = c.id })).waits ≡ d.waits
+    of true = refl
+    of false = refl
+
+-- the parts side by side at their openings
+abbrev pub opened_parts : KConf → PlainParts
+opened_parts conf = record {
+  clock = opened_clock conf.cycs.cycs;
+  tasks = opened_tasks conf.tasks.tasks;
+  sems = opened_semaphores conf.sync;
+  flags = opened_flags conf.sync;
+  dtqs = opened_queues conf.sync;
+  waits = [];
+  last_call = 0;
+}
+
+pub opened_agrees : (conf : KConf) → opened_parts conf ≡ parts_of (opened conf)
+opened_agrees conf = ap (λ ws. record (opened_parts conf) { tasks = record (opened_tasks conf.tasks.tasks) { waits = ws } }) (opened_waits conf.tasks.tasks no_tasks)
+
+pub opens : (conf : KConf) (new : PlainParts) → IsWholeDeclarable conf → new ≡ opened_parts conf → IsTiedTo new (opened conf)
+opens conf new good e = tied_to new (opened conf) (e ∙ opened_agrees conf) (opened_stands conf good) refl
 
 -- ---- settling
 
