@@ -39,6 +39,7 @@ use Rattle.k_kernel.specs.PartsRows.{PartsOutcome, row as parts_row, with_wait a
 use Rattle.k_kernel.specs.PartsSettle.{settle}
 use Rattle.k_kernel.specs.PartsTime.{ended_call}
 use Rattle.k_kernel.proofs.RowsAgreeSeen.{told}
+use Rattle.k_kernel.proofs.RowsAgree.{row_agrees}
 use Rattle.k_kernel.proofs.SettleAgrees.{settle_agrees}
 use Rattle.k_kernel.proofs.EndAgrees.{PartsRest, rests_parts, ended_agrees, may_call, calls_may, blocked_agrees}
 
@@ -103,8 +104,11 @@ pub record IsCalled (new : PlainParts) (done : Done) (o : WholeOutcome) : Type 0
   pub does : DoesWhole (whole_of new) done o
   pub tied : Tied new
 
--- its row, where the parts' row is the whole kernel's, and the ends of all calls that are met then
-module _ (p : PlainParts) (t : Tied p) (ctx : Ctx) (request : KReq) (number : CallNo) (calls : Calls (whole_of p) ctx) (same : parts_row p ctx request number ≡ told (row (whole_of p) ctx request number)) where
+-- its row, and the ends of all calls that are met then
+module _ (p : PlainParts) (t : Tied p) (ctx : Ctx) (request : KReq) (number : CallNo) (calls : Calls (whole_of p) ctx) where
+  same : parts_row p ctx request number ≡ told (row (whole_of p) ctx request number)
+  same = ap (λ q. parts_row q ctx request number) t.agree ∙ row_agrees (whole_of p) ctx request number t.standing calls
+
   settles : SettlesTo (parts_row p ctx request number).parts (parts_row p ctx request number).ends (call (whole_of p) ctx request number)
   unfolding call
   settles = rw same (settled_agrees (row (whole_of p) ctx request number) (row_stands (whole_of p) ctx request number t.standing calls))
