@@ -1,23 +1,18 @@
 -- Each call, as the parts of a kernel make it side by side, is the row of the whole kernel.
-use Rattle.std.proofs.Common.{◌≡◌, ◌≢◌, ℕ, ◌-◌, Bool, true, false, not, ◌&&◌, List, [], Option, Some, None, refl, ap, sym, ◌∙◌, inl, inr}
-use Rattle.std.specs.Prelude.{if◌then◌else◌}
+use Rattle.std.proofs.Common.{◌≡◌, ◌-◌, Bool, true, false, not, ◌&&◌, refl, inl, inr}
 use Rattle.std.proofs.lemmas.Bool.{cases_Bool}
 use Rattle.it_types.specs.declared.id.CallNo.{CallNo}
-use Rattle.it_types.specs.declared.er.Er.{Er}
-use Rattle.it_types.specs.declared.timeout.Tmo.{Tmo}
 use Rattle.it_types.specs.declared.timeout.Tmo.TheVariants as timeouts
 use Rattle.it_types.specs.declared.context.Ctx.{Ctx}
 use Rattle.it_types.specs.declared.context.Ctx.TheVariants as contexts
 use Rattle.it_types.specs.declared.kernel_request.KReq.{KReq}
 use Rattle.it_types.specs.declared.kernel_request.KReq.TheVariants.{ActTsk, CanAct, ExtTsk, TerTsk, ChgPri, GetPri, TslpTsk, WupTsk, CanWup, RelWai, SusTsk, RsmTsk, FrsmTsk, DlyTsk, RotRdq, GetTid, SigSem, TwaiSem, SetFlg, ClrFlg, TwaiFlg, TsndDtq, FsndDtq, TrcvDtq, SetTim, GetTim, StaCyc, StpCyc}
-use Rattle.it_types.specs.Callers.{is_handler, caller, is_poll}
+use Rattle.it_types.specs.Callers.{is_handler, caller}
 use Rattle.spec_lists.specs.Tables.{get}
-use Rattle.spec_lists.specs.Refusal.{first_refusal}
 use Rattle.spec_lists.proofs.Refusing.{none_holds}
-use Rattle.spec_kernel.specs.declared.reason.WaitReason.TheVariants as reasons
 use Rattle.spec_kernel.specs.TaskBlocks.{suspensions_of, without_activations, without_wakeups}
-use Rattle.spec_kernel.specs.PlainTasks.{has_priority, running}
-use Rattle.spec_kernel.specs.TaskRows.{TaskDone, named, activated, activations_cancelled, wakeups_cancelled, resumed, waking, rotated_priority, act_tsk_refusals, can_act_refusals, ter_tsk_refusals, get_pri_refusals, rot_rdq_refusals, wup_tsk_refusals, can_wup_refusals, rel_wai_refusals, sus_tsk_refusals, rsm_tsk_refusals}
+use Rattle.spec_kernel.specs.PlainTasks.{has_priority}
+use Rattle.spec_kernel.specs.TaskRows.{named, rotated_priority, act_tsk_refusals, can_act_refusals, ter_tsk_refusals, get_pri_refusals, rot_rdq_refusals, wup_tsk_refusals, can_wup_refusals, rel_wai_refusals, sus_tsk_refusals, rsm_tsk_refusals}
 use Rattle.spec_kernel.specs.WholeKernel.{WholeKernel, tasks_of}
 use Rattle.spec_kernel.specs.WholeRows.{is_a_handlers, carried_out, row}
 use Rattle.spec_kernel.specs.WholeStanding.{IsStanding}
@@ -25,7 +20,7 @@ use Rattle.spec_kernel.specs.WholeParts.{parts_of}
 use Rattle.k_kernel.specs.PartsRows.{carried_out as parts_carried_out, row as parts_row}
 use Rattle.laws_calls.specs.Calling.{Calls}
 use Rattle.k_kernel.proofs.RowsAgreeSeen.{told}
-use Rattle.k_kernel.proofs.RowsAgreeTasks.{Agrees, refused_agrees, all_wait_on}
+use Rattle.k_kernel.proofs.RowsAgreeTasks.{refused_agrees}
 use Rattle.k_kernel.proofs.RowsAgreeTaskCalls.{task_agrees, order_agrees, suspended_agrees, resumed_agrees, activated_agrees, waking_agrees, released_agrees, ending_agrees}
 use Rattle.k_kernel.proofs.RowsAgreeWaits.{CanWait, sleeping_agrees, delayed_agrees}
 use Rattle.k_kernel.proofs.RowsAgreeObjects.{sig_sem_agrees, twai_sem_agrees, set_flg_agrees, clr_flg_agrees, twai_flg_agrees}

@@ -1,12 +1,11 @@
 -- The calls on objects, but for those that end the call of another: the parts side by side do what the whole kernel does.
-use Rattle.std.proofs.Common.{◌≡◌, ◌≢◌, ℕ, ◌+◌, ◌≤◌, Bool, true, false, not, ◌&&◌, List, [], ◌∷◌, ◌++◌, length, Option, Some, None, refl, ap, sym, ◌∙◌, subst, inl, inr, arith}
-use Rattle.std.specs.Prelude.{◌==◌, nat_lt, if◌then◌else◌}
+use Rattle.std.proofs.Common.{◌≡◌, ℕ, ◌+◌, ◌≤◌, Bool, true, false, List, [], ◌∷◌, ◌++◌, length, Option, Some, None, refl, ap, sym, ◌∙◌, subst, inl, inr}
 use Rattle.std.proofs.lemmas.Bool.{cases_Bool, cases_eq, cases_lt}
 use Rattle.std.proofs.lemmas.List.{get_or-set_same, get_or_past, length-set}
 use Rattle.it_types.specs.declared.id.ObjId.{ObjId}
 use Rattle.it_types.specs.declared.id.CallNo.{CallNo}
 use Rattle.it_types.specs.declared.er.Er.{Er}
-use Rattle.it_types.specs.declared.er.TheConstants.{E_OK, E_TMOUT}
+use Rattle.it_types.specs.declared.er.TheConstants.{E_OK}
 use Rattle.it_types.specs.declared.timeout.Tmo.{Tmo}
 use Rattle.it_types.specs.declared.context.Ctx.{Ctx}
 use Rattle.it_types.specs.Callers.{caller, is_poll}
@@ -20,25 +19,22 @@ use Rattle.spec_kernel.specs.declared.reason.WaitReason.{WaitReason}
 use Rattle.spec_kernel.specs.declared.reason.WaitReason.TheVariants as reasons
 use Rattle.spec_kernel.specs.declared.waiter.Waiter.{Waiter}
 use Rattle.spec_kernel.specs.Waiters.{joined_by}
-use Rattle.spec_kernel.specs.Waiting.{PlainObjects, is_by_priority, semaphores_after, flags_after, queues_after}
+use Rattle.spec_kernel.specs.Waiting.{PlainObjects, is_by_priority, semaphores_after, flags_after}
 use Rattle.spec_kernel.specs.SemaphoreBlocks.{is_ordered as semaphore_by_priority, one_more, one_less}
 use Rattle.spec_kernel.specs.FlagBlocks.{is_ordered as flag_by_priority, with_bits, only_bits, released}
-use Rattle.spec_kernel.specs.DataQueues.{DataQueue, sends_by_priority, with_item, with_forced_item, item_taken}
+use Rattle.spec_kernel.specs.DataQueues.{sends_by_priority}
 use Rattle.spec_kernel.specs.PlainSemaphores.{PlainSemaphores}
 use Rattle.spec_kernel.specs.PlainSemaphores.{is_met as is_met_at_semaphores, bytes_of as bytes_at_semaphores}
 use Rattle.spec_kernel.specs.PlainFlags.{PlainFlags}
 use Rattle.spec_kernel.specs.PlainFlags.{is_met as is_met_at_flags, bytes_of as bytes_at_flags}
-use Rattle.spec_kernel.specs.PlainQueues.{PlainQueues}
-use Rattle.spec_kernel.specs.PlainQueues.{bytes_of as bytes_at_queues}
 use Rattle.spec_kernel.specs.SemaphoreRows.{SemaphoresDone, sig_sem, sig_sem_refusals, signalled, twai_sem, twai_sem_refusals, asked as asked_at_semaphores, waiting as waiting_at_semaphores, waiter_for as waiter_at_semaphores, took as took_at_semaphores, unless_refused as unless_semaphores_refused, refused_or as semaphores_refused_or}
 use Rattle.spec_kernel.specs.FlagRows.{FlagsDone, set_flg, clr_flg, set_flg_refusals, twai_flg, twai_flg_refusals, asked as asked_at_flags, waiting as waiting_at_flags, waiter_for as waiter_at_flags, took as took_at_flags, unless_refused as unless_flags_refused, refused_or as flags_refused_or}
-use Rattle.spec_kernel.specs.QueueRows.{QueuesDone, waiting as waiting_at_queues, waiter_for as waiter_at_queues, took as took_at_queues, unless_refused as unless_queues_refused, refused_or as queues_refused_or}
 use Rattle.spec_kernel.specs.WholeKernel.{WholeKernel, tasks_of, semaphores_of, flags_of, queues_of, with_objects, is_for_a_semaphore, is_for_a_flag, is_for_a_queue}
-use Rattle.spec_kernel.specs.WholeRows.{priority_in, waiting_call, done_by_semaphores, done_by_flags, done_by_queues}
+use Rattle.spec_kernel.specs.WholeRows.{priority_in, done_by_semaphores, done_by_flags}
 use Rattle.spec_kernel.specs.WholeStanding.{IsStanding}
 use Rattle.spec_kernel.specs.WholeParts.{PlainParts, parts_of}
 use Rattle.k_kernel.specs.PartsRows.{answered_with as parts_answered_with}
-use Rattle.k_kernel.specs.PartsRows.{done_by_semaphores as parts_done_by_semaphores, done_by_flags as parts_done_by_flags, done_by_queues as parts_done_by_queues}
+use Rattle.k_kernel.specs.PartsRows.{done_by_semaphores as parts_done_by_semaphores, done_by_flags as parts_done_by_flags}
 use Rattle.k_kernel.proofs.Views.{waiters_among}
 use Rattle.k_kernel.proofs.RowsAgreeSeen.{told, same_seen, alike_by_order}
 use Rattle.k_kernel.proofs.RowsAgreeTasks.{same_parts}

@@ -1,16 +1,13 @@
 -- A new priority, with a new place in a queue by priority: the parts side by side do what the whole kernel does.
-use Rattle.std.proofs.Common.{◌≡◌, ◌≢◌, ℕ, ◌+◌, ◌≤◌, Bool, true, false, not, ◌&&◌, ◌||◌, List, [], ◌∷◌, ◌++◌, slice_set, Option, Some, None, refl, ap, sym, ◌∙◌, subst, inl, inr, arith}
-use Rattle.std.specs.Prelude.{◌==◌, if◌then◌else◌}
+use Rattle.std.proofs.Common.{◌≡◌, ◌≢◌, ℕ, ◌+◌, Bool, true, false, ◌&&◌, List, [], ◌∷◌, ◌++◌, slice_set, Option, Some, None, refl, ap, sym, ◌∙◌, inl, inr, arith}
 use Rattle.std.specs.Int.{is_negative}
 use Rattle.std.proofs.lemmas.List.{set-set, set-get_or}
 use Rattle.std.proofs.lemmas.Bool.{cases_Bool, cases_eq, and_parts, eqb-true, eq-eqb}
 use Rattle.std.proofs.Math.Bool.{or-false}
 use Rattle.it_types.specs.declared.id.TaskId.{TaskId}
-use Rattle.it_types.specs.declared.id.ObjId.{ObjId}
 use Rattle.it_types.specs.declared.er.Er.{Er}
-use Rattle.it_types.specs.declared.er.TheConstants.{E_OK}
 use Rattle.it_types.specs.declared.context.Ctx.{Ctx}
-use Rattle.spec_lists.specs.Tables.{get, change}
+use Rattle.spec_lists.specs.Tables.{get}
 use Rattle.spec_lists.specs.First.{put_back, take_first}
 use Rattle.spec_lists.specs.Refusal.{first_refusal}
 use Rattle.spec_lists.specs.Counting.{times}
@@ -19,30 +16,27 @@ use Rattle.spec_lists.proofs.Counting.{times-found, one_if-same}
 use Rattle.spec_kernel.specs.declared.reason.WaitReason.{WaitReason}
 use Rattle.spec_kernel.specs.declared.reason.WaitReason.TheVariants as reasons
 use Rattle.spec_kernel.specs.declared.reason.WaitingCall.{WaitingCall}
-use Rattle.spec_kernel.specs.declared.task_block.TaskBlock.{TaskBlock}
-use Rattle.spec_kernel.specs.declared.waiter.Waiter.{Waiter}
-use Rattle.spec_kernel.specs.TaskBlocks.{changed, priority_of, with_priority}
+use Rattle.spec_kernel.specs.TaskBlocks.{priority_of, with_priority}
 use Rattle.spec_kernel.specs.PlainTasks.{PlainTasks, is_same, with_task, last_in_order}
-use Rattle.spec_kernel.specs.TaskRows.{TaskDone, chg_pri, chg_pri_refusals, reprioritised, named}
+use Rattle.spec_kernel.specs.TaskRows.{chg_pri, chg_pri_refusals, reprioritised, named}
 use Rattle.spec_kernel.specs.TaskRows.{answered as task_answered, unless_refused as unless_task_refused}
 use Rattle.spec_kernel.specs.Waiters.{is_task}
 use Rattle.spec_kernel.specs.Waiters.{moved as waiter_moved, reprioritised as reprioritised_in}
-use Rattle.spec_kernel.specs.Waiting.{PlainObjects, is_by_priority}
+use Rattle.spec_kernel.specs.Waiting.{is_by_priority}
 use Rattle.spec_kernel.specs.PlainSemaphores.{is_by_priority as is_ordered_semaphore}
 use Rattle.spec_kernel.specs.PlainFlags.{is_by_priority as is_ordered_flag}
 use Rattle.spec_kernel.specs.PlainQueues.{is_by_priority as is_ordered_queue}
 use Rattle.spec_kernel.specs.WholeKernel.{WholeKernel, is_of, task_wait, waits_by_task, tasks_of, with_tasks, semaphores_of, flags_of, queues_of, is_for_a_semaphore, is_for_a_flag, is_for_a_queue, waiter_of}
-use Rattle.spec_kernel.specs.WholeSettle.{WholeOutcome}
-use Rattle.spec_kernel.specs.WholeRows.{waits_by_priority, moved, last_in_its_queue, moved_unless_refused, done_at_once}
+use Rattle.spec_kernel.specs.WholeRows.{waits_by_priority, moved, last_in_its_queue, done_at_once}
 use Rattle.spec_kernel.specs.WholeRows.{reprioritised as moving}
 use Rattle.spec_kernel.specs.WholeStanding.{waiting_number, IsStanding}
 use Rattle.spec_kernel.specs.WholeParts.{PlainParts, parts_of}
-use Rattle.k_kernel.specs.PartsRows.{PartsOutcome, is_ordered, waits_in_order}
+use Rattle.k_kernel.specs.PartsRows.{is_ordered}
 use Rattle.k_kernel.specs.PartsRows.{with_tasks as parts_with_tasks, moved as parts_moved, last_in_its_queue as parts_last, reprioritised as parts_moving}
 use Rattle.laws_calls.proofs.Lists.{found_passes, other_task}
 use Rattle.k_kernel.proofs.Views.{waiters_among, waits_left, waits_joined, waiters_joined, waiters_as_before, nobody_found}
 use Rattle.k_kernel.proofs.RowsAgreeSeen.{told, AreAlike, same_seen}
-use Rattle.k_kernel.proofs.RowsAgreeTasks.{same_parts, Agrees}
+use Rattle.k_kernel.proofs.RowsAgreeTasks.{same_parts}
 use Rattle.k_kernel.proofs.RowsAgreeQueues.{first_of_its_task, taken_elsewhere}
 use Rattle.k_kernel.proofs.NextAgrees.{sees_found}
 

@@ -1,8 +1,6 @@
 -- The calls on data queues, with the end of another's call on a queue without capacity: the parts side by side do what the whole kernel does.
-use Rattle.std.proofs.Common.{◌≡◌, ◌≢◌, ℕ, ◌+◌, ◌≤◌, Bool, true, false, not, ◌&&◌, List, [], ◌∷◌, ◌++◌, slice_set, Option, Some, None, refl, ap, sym, ◌∙◌, subst, inl, inr, arith}
-use Rattle.std.specs.Prelude.{◌==◌, if◌then◌else◌}
-use Rattle.std.specs.List.{list_any}
-use Rattle.std.proofs.lemmas.Bool.{cases_Bool, and_parts, eqb-true}
+use Rattle.std.proofs.Common.{◌≡◌, ℕ, Bool, true, false, ◌&&◌, List, [], ◌∷◌, slice_set, Option, Some, None, refl, ap, sym, ◌∙◌, inl, inr}
+use Rattle.std.proofs.lemmas.Bool.{cases_Bool, eqb-true}
 use Rattle.it_types.specs.declared.id.TaskId.{TaskId}
 use Rattle.it_types.specs.declared.id.ObjId.{ObjId}
 use Rattle.it_types.specs.declared.id.CallNo.{CallNo}
@@ -14,7 +12,6 @@ use Rattle.it_types.specs.Callers.{caller, is_poll}
 use Rattle.spec_lists.specs.Tables.{get, change}
 use Rattle.spec_lists.specs.First.{put_back, take_first, is_least}
 use Rattle.spec_lists.specs.Refusal.{first_refusal}
-use Rattle.spec_lists.specs.Counting.{times}
 use Rattle.spec_lists.proofs.Firsts.{cases_of_first, some_parts, none_any}
 use Rattle.spec_kernel.specs.declared.task_wait.TaskWait.TheVariants as task_waits
 use Rattle.spec_kernel.specs.declared.reason.WaitReason.{WaitReason}
@@ -30,13 +27,13 @@ use Rattle.spec_kernel.specs.Waiting.{is_by_priority}
 use Rattle.spec_kernel.specs.DataQueues.{DataQueue, sends_by_priority, hands_over, with_item, with_forced_item, item_taken}
 use Rattle.spec_kernel.specs.PlainQueues.{PlainQueues, is_met, bytes_of, handed_bytes}
 use Rattle.spec_kernel.specs.PlainQueues.{is_by_priority as is_ordered_at_queues}
-use Rattle.spec_kernel.specs.QueueRows.{QueuesDone, waiting, waiter_for, took, met, unless_refused, refused_or, other_side, handing, item_sent, sends_at_once, sent_to, received_from, forced, tsnd_dtq, fsnd_dtq, trcv_dtq, tsnd_dtq_refusals, fsnd_dtq_refusals, trcv_dtq_refusals}
+use Rattle.spec_kernel.specs.QueueRows.{QueuesDone, waiting, waiter_for, took, unless_refused, refused_or, other_side, handing, item_sent, sends_at_once, sent_to, received_from, forced, tsnd_dtq, fsnd_dtq, trcv_dtq, tsnd_dtq_refusals, fsnd_dtq_refusals, trcv_dtq_refusals}
 use Rattle.spec_kernel.specs.WholeKernel.{WholeKernel, is_of, task_wait, waits_by_task, tasks_of, semaphores_of, flags_of, queues_of, is_for_a_semaphore, is_for_a_flag, is_for_a_queue, waiter_of}
-use Rattle.spec_kernel.specs.WholeSettle.{WholeOutcome, ending, ended}
+use Rattle.spec_kernel.specs.WholeSettle.{ending, ended}
 use Rattle.spec_kernel.specs.WholeRows.{answered_with, priority_in, handed_to, done_by_queues}
 use Rattle.spec_kernel.specs.WholeStanding.{IsStanding}
 use Rattle.spec_kernel.specs.WholeParts.{PlainParts, parts_of}
-use Rattle.k_kernel.specs.PartsRows.{PartsOutcome, ended_by_other, handed_over}
+use Rattle.k_kernel.specs.PartsRows.{ended_by_other, handed_over}
 use Rattle.k_kernel.specs.PartsRows.{answered_with as parts_answered_with, done_by_queues as parts_done_by_queues}
 use Rattle.laws_calls.proofs.Lists.{found_passes}
 use Rattle.laws_calls.proofs.RowActs.{found_waits}

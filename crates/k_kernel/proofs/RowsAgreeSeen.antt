@@ -1,40 +1,30 @@
 -- What the parts of a kernel see of the calls that wait stays the same where each call counts in its queue as before.
-use Rattle.std.proofs.Common.{◌≡◌, ℕ, ◌+◌, ◌≤◌, Bool, true, false, map, List, [], ◌∷◌, Option, Some, None, refl, ap, sym, ◌∙◌, inl, inr, arith}
-use Rattle.std.specs.Prelude.{◌==◌, filter}
+use Rattle.std.proofs.Common.{◌≡◌, ℕ, ◌≤◌, Bool, true, List, [], ◌∷◌, refl, inl, inr, arith}
 use Rattle.std.proofs.lemmas.Bool.{cases_Bool}
 use Rattle.spec_lists.specs.Tables.{get}
-use Rattle.spec_lists.specs.Counting.{one_if, times}
+use Rattle.spec_lists.specs.Counting.{times}
 use Rattle.spec_lists.proofs.Counting.{one_if-same}
 use Rattle.spec_kernel.specs.declared.reason.WaitReason.{WaitReason}
 use Rattle.spec_kernel.specs.declared.reason.WaitingCall.{WaitingCall}
-use Rattle.spec_kernel.specs.declared.waiter.Waiter.{Waiter}
 use Rattle.spec_kernel.specs.TaskBlocks.{priority_of}
-use Rattle.spec_kernel.specs.ObjectRows.{urgency_in}
 use Rattle.spec_kernel.specs.Waiting.{is_by_priority}
-use Rattle.spec_kernel.specs.PlainTasks.{PlainTasks}
-use Rattle.spec_kernel.specs.PlainSemaphores.{PlainSemaphores}
-use Rattle.spec_kernel.specs.PlainFlags.{PlainFlags}
-use Rattle.spec_kernel.specs.PlainQueues.{PlainQueues}
-use Rattle.spec_kernel.specs.WholeKernel.{WholeKernel, waiter_of}
+use Rattle.spec_kernel.specs.WholeKernel.{WholeKernel}
 use Rattle.spec_kernel.specs.WholeSettle.{WholeOutcome, urgency_of}
 use Rattle.spec_kernel.specs.WholeStanding.{waiting_number}
-use Rattle.spec_kernel.specs.WholeParts.{PlainParts, parts_of}
+use Rattle.spec_kernel.specs.WholeParts.{parts_of}
 use Rattle.k_kernel.specs.PartsRows.{PartsOutcome}
+use Rattle.k_kernel.proofs.Views.{waiters_among}
 
 -- an outcome of the whole kernel, as its parts have it
 abbrev pub told : WholeOutcome → PartsOutcome
 told o = record { parts = parts_of o.kernel; answer = o.answer; ends = o.ends; gone = o.gone; begun = o.begun }
-
--- the calls of a kind, as a part of the kernel sees them
-abbrev pub seen : (WaitReason → Bool) → WholeKernel → List WaitingCall → List Waiter
-seen kind k ws = map (waiter_of k) (filter (λ w. kind w.reason) ws)
 
 -- each call of the kind counts in its queue as before
 abbrev pub AreAlike : (WaitReason → Bool) → WholeKernel → WholeKernel → List WaitingCall → Type 0
 AreAlike kind k l [] = Unit {0}
 AreAlike kind k l (w ∷ ws) = (kind w.reason ≡ true → urgency_of l w ≡ urgency_of k w) × AreAlike kind k l ws
 
-pub same_seen : (kind : WaitReason → Bool) (k l : WholeKernel) (ws : List WaitingCall) → AreAlike kind k l ws → seen kind l ws ≡ seen kind k ws
+pub same_seen : (kind : WaitReason → Bool) (k l : WholeKernel) (ws : List WaitingCall) → AreAlike kind k l ws → waiters_among kind l ws ≡ waiters_among kind k ws
 same_seen kind k l [] h = refl
 same_seen kind k l (w ∷ ws) h = elim (cases_Bool (kind w.reason)) [
   | inl e ↦ rw (e, h.0 e, same_seen kind k l ws h.1) refl

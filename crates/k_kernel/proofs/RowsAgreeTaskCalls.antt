@@ -1,8 +1,7 @@
 -- Each call on tasks that is done at once, by what it does: the parts side by side do what the whole kernel does.
-use Rattle.std.proofs.Common.{◌≡◌, ◌≢◌, ℕ, ◌-◌, ◌≤◌, Bool, true, false, not, ◌&&◌, ◌||◌, List, [], ◌∷◌, slice_set, length, Option, Some, None, is_some, is_none, refl, ap, sym, ◌∙◌, subst, inl, inr, arith}
-use Rattle.std.specs.Prelude.{◌==◌, nat_lt, if◌then◌else◌}
-use Rattle.std.specs.List.{list_any}
-use Rattle.std.proofs.lemmas.Bool.{cases_Bool, cases_eq, cases_lt, eqb-true}
+use Rattle.std.proofs.Common.{◌≡◌, ◌≢◌, ℕ, ◌-◌, Bool, true, false, ◌||◌, List, slice_set, length, Option, Some, None, is_some, refl, ap, sym, ◌∙◌, subst, inl, inr, arith}
+use Rattle.std.specs.Prelude.{nat_lt, if◌then◌else◌}
+use Rattle.std.proofs.lemmas.Bool.{cases_Bool, cases_lt, eqb-true}
 use Rattle.std.proofs.lemmas.List.{get_or-set_same, get_or_past, length-set, set-get_or}
 use Rattle.it_types.specs.declared.id.TaskId.{TaskId}
 use Rattle.it_types.specs.declared.er.TheConstants.{E_OK}
@@ -17,12 +16,12 @@ use Rattle.spec_kernel.specs.declared.task_wait.TaskWait.{TaskWait}
 use Rattle.spec_kernel.specs.declared.reason.WaitingCall.{WaitingCall}
 use Rattle.spec_kernel.specs.TaskBlocks.{changed, priority_of, is_active, is_suspended, dormant, begun, one_activation_more, one_activation_less, one_wakeup_more, one_suspension_more, with_suspensions}
 use Rattle.spec_kernel.specs.PlainTasks.{PlainTasks, is_waiting, is_asleep, is_for_a_wakeup, with_task, joining_unless, leaving, last_in_order, released}
-use Rattle.spec_kernel.specs.TaskRows.{TaskDone, with_code, only_if, begun_anew, has_activation, after_end, activated, beginning, resumed, waking, laid_down}
+use Rattle.spec_kernel.specs.TaskRows.{TaskDone, with_code, only_if, has_activation, after_end, activated, beginning, resumed, waking}
 use Rattle.spec_kernel.specs.TaskRows.{answered as task_answered, ending as task_ending}
 use Rattle.spec_kernel.specs.WholeKernel.{WholeKernel, is_of, waits_by_task, tasks_of}
 use Rattle.spec_kernel.specs.WholeRows.{ended_call, the_others}
-use Rattle.spec_kernel.specs.WholeStanding.{waiting_number, waits_now, IsStanding}
-use Rattle.laws_calls.proofs.Lists.{found_passes, waiting_none, left_same, this_task, other_task}
+use Rattle.spec_kernel.specs.WholeStanding.{waiting_number, IsStanding}
+use Rattle.laws_calls.proofs.Lists.{found_passes, waiting_none, left_same, other_task}
 use Rattle.laws_calls.proofs.Standing.{sees_its_wait}
 use Rattle.k_kernel.proofs.Views.{waits_left}
 use Rattle.k_kernel.proofs.RowsAgreeTasks.{KeepsWaits, Agrees, done_agrees, all_wait_on, priorities_kept}

@@ -1,9 +1,6 @@
 -- The calls on tasks that are done at once: the parts side by side do what the whole kernel does.
-use Rattle.std.proofs.Common.{◌≡◌, ◌≢◌, ℕ, ◌+◌, ◌≤◌, Bool, true, false, not, ◌&&◌, map, List, [], ◌∷◌, slice_set, Option, Some, None, is_some, is_none, refl, ap, sym, ◌∙◌, subst, inl, inr, arith}
-use Rattle.std.specs.Prelude.{◌==◌, filter, nat_lt, if◌then◌else◌}
-use Rattle.std.specs.List.{list_any}
-use Rattle.std.proofs.lemmas.Bool.{cases_Bool, cases_eq, eqb-true, eq-eqb}
-use Rattle.std.proofs.lemmas.List.{get_or-set_same, get_or_past, length-set, set-get_or}
+use Rattle.std.proofs.Common.{◌≡◌, ℕ, ◌≤◌, Bool, false, List, Option, Some, None, refl, ap, sym, ◌∙◌, subst, inl, inr}
+use Rattle.std.proofs.lemmas.Bool.{cases_Bool, cases_eq}
 use Rattle.it_types.specs.declared.id.TaskId.{TaskId}
 use Rattle.it_types.specs.declared.er.Er.{Er}
 use Rattle.it_types.specs.declared.context.Ctx.{Ctx}
@@ -15,13 +12,13 @@ use Rattle.spec_kernel.specs.declared.task_block.TaskBlock.{TaskBlock}
 use Rattle.spec_kernel.specs.declared.reason.WaitReason.{WaitReason}
 use Rattle.spec_kernel.specs.declared.reason.WaitingCall.{WaitingCall}
 use Rattle.spec_kernel.specs.TaskBlocks.{changed, priority_of}
-use Rattle.spec_kernel.specs.PlainTasks.{PlainTasks, is_waiting, with_task}
+use Rattle.spec_kernel.specs.PlainTasks.{PlainTasks, is_waiting}
 use Rattle.spec_kernel.specs.PlainSemaphores.{PlainSemaphores}
 use Rattle.spec_kernel.specs.PlainFlags.{PlainFlags}
 use Rattle.spec_kernel.specs.PlainQueues.{PlainQueues}
 use Rattle.spec_kernel.specs.PlainClock.{PlainClock}
 use Rattle.spec_kernel.specs.TaskRows.{TaskDone}
-use Rattle.spec_kernel.specs.TaskRows.{answered as task_answered, unless_refused as unless_task_refused, refused_or as task_refused_or}
+use Rattle.spec_kernel.specs.TaskRows.{unless_refused as unless_task_refused, refused_or as task_refused_or}
 use Rattle.spec_kernel.specs.Waiters.{left_by}
 use Rattle.spec_kernel.specs.WholeKernel.{WholeKernel, is_of, waits_by_task, tasks_of, with_tasks, semaphores_of, flags_of, queues_of, is_for_a_semaphore, is_for_a_flag, is_for_a_queue, waiters_for}
 use Rattle.spec_kernel.specs.WholeRows.{ended_call, the_others, done_at_once}
@@ -30,8 +27,8 @@ use Rattle.spec_kernel.specs.WholeParts.{PlainParts, parts_of}
 use Rattle.k_kernel.specs.PartsRows.{PartsOutcome, without_call, at_once}
 use Rattle.k_kernel.specs.PartsRows.{with_tasks as parts_with_tasks}
 use Rattle.laws_calls.proofs.Lists.{this_task, other_task}
-use Rattle.k_kernel.proofs.Views.{AreOnce, waiters_among, waiters_left}
-use Rattle.k_kernel.proofs.RowsAgreeSeen.{told, AreAlike, same_seen, alike_by_priority}
+use Rattle.k_kernel.proofs.Views.{waiters_among, waiters_left}
+use Rattle.k_kernel.proofs.RowsAgreeSeen.{told, same_seen, alike_by_priority}
 
 -- parts that are the same one by one
 pub same_parts : (clock : PlainClock) (waits : List WaitingCall) (last_call : ℕ) (t u : PlainTasks) (a b : PlainSemaphores) (c d : PlainFlags) (e f : PlainQueues)

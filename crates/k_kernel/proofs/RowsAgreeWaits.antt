@@ -1,6 +1,6 @@
 -- A call of the running task that waits: the parts side by side do what the whole kernel does.
-use Rattle.std.proofs.Common.{◌≡◌, ◌≢◌, ℕ, ◌+◌, ◌<◌, ◌≤◌, Bool, true, false, not, ◌&&◌, List, [], ◌∷◌, ◌++◌, slice_set, length, Option, Some, None, is_some, refl, ap, sym, ◌∙◌, subst, inl, inr, arith}
-use Rattle.std.specs.Prelude.{◌==◌, nat_lt, if◌then◌else◌}
+use Rattle.std.proofs.Common.{◌≡◌, ◌≢◌, ℕ, ◌+◌, ◌<◌, Bool, true, false, List, [], ◌∷◌, ◌++◌, slice_set, length, Option, Some, None, is_some, refl, ap, sym, ◌∙◌, inl, inr, arith}
+use Rattle.std.specs.Prelude.{nat_lt, if◌then◌else◌}
 use Rattle.std.proofs.lemmas.Bool.{cases_Bool}
 use Rattle.std.proofs.lemmas.List.{get_or-set_same}
 use Rattle.it_types.specs.declared.id.TaskId.{TaskId}
@@ -10,8 +10,7 @@ use Rattle.it_types.specs.declared.er.TheConstants.{E_OK, E_TMOUT}
 use Rattle.it_types.specs.declared.timeout.Tmo.{Tmo}
 use Rattle.it_types.specs.declared.timeout.Tmo.TheVariants as timeouts
 use Rattle.it_types.specs.declared.context.Ctx.{Ctx}
-use Rattle.it_types.specs.declared.context.Ctx.TheVariants as contexts
-use Rattle.it_types.specs.Callers.{is_handler, caller, is_poll}
+use Rattle.it_types.specs.Callers.{caller, is_poll}
 use Rattle.spec_lists.specs.Tables.{get}
 use Rattle.spec_lists.specs.Counting.{times}
 use Rattle.spec_lists.specs.Refusal.{first_refusal}
@@ -30,11 +29,10 @@ use Rattle.spec_kernel.specs.PlainTasks.{waiting as waiting_task}
 use Rattle.spec_kernel.specs.PlainSemaphores.{PlainSemaphores}
 use Rattle.spec_kernel.specs.PlainFlags.{PlainFlags}
 use Rattle.spec_kernel.specs.PlainQueues.{PlainQueues}
-use Rattle.spec_kernel.specs.WholeKernel.{WholeKernel, is_of, task_wait, waits_by_task, tasks_of, semaphores_of, flags_of, queues_of, is_for_a_semaphore, is_for_a_flag, is_for_a_queue, waiter_of}
+use Rattle.spec_kernel.specs.WholeKernel.{WholeKernel, task_wait, waits_by_task, tasks_of, semaphores_of, flags_of, queues_of, is_for_a_semaphore, is_for_a_flag, is_for_a_queue, waiter_of}
 use Rattle.spec_kernel.specs.WholeRows.{waiting_call, with_wait, accepted, done_by_tasks}
-use Rattle.spec_kernel.specs.WholeStanding.{waiting_number, waits_now, IsStanding}
+use Rattle.spec_kernel.specs.WholeStanding.{waiting_number, IsStanding}
 use Rattle.spec_kernel.specs.WholeParts.{PlainParts, parts_of}
-use Rattle.k_kernel.specs.PartsRows.{PartsOutcome}
 use Rattle.k_kernel.specs.PartsRows.{answered as parts_answered, with_wait as parts_with_wait, waiting_call as parts_waiting_call, accepted as parts_accepted, done_by_tasks as parts_done_by_tasks}
 use Rattle.laws_calls.proofs.Lists.{waiting_none}
 use Rattle.laws_calls.proofs.Callers.{caller_ids, caller_active, caller_idle, caller_waits_not}
