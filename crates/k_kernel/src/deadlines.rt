@@ -1,16 +1,18 @@
 //! Calls that end by time.
 
-ghost use Rattle.std.specs.Prelude.{◌≡◌, ◌&&◌, ◌<◌, ◌+◌, None, Some, MatchOption, slice_index_or, remove, length};
+ghost use Rattle.std.specs.Prelude.{◌≡◌, ◌&&◌, ◌<◌, ◌^◌, None, Some, MatchOption, slice_index_or, remove, length};
 ghost use Rattle.std.specs.List.{position};
 ghost use Rattle.spec_lists.specs.First.{take_first};
 ghost use Rattle.spec_kernel.specs.declared.reason.WaitingCall.{WaitingCall as AWaitingCall};
 ghost use Rattle.spec_kernel.specs.WholeTime.{code_by_time, is_next_past, is_outside_of, is_past};
+ghost use Rattle.spec_kernel.specs.PlainClock.{due_at_tick, ticked_clock};
 ghost use Rattle.k_kernel.specs.Found.{paired};
 ghost use Rattle.k_kernel.specs.PartsTime.{ended_from, is_sooner};
 
 use crate::done::is_outside;
 use crate::parts::Parts;
-use it_types::{CallNo, E_OK, E_TMOUT, Er, TaskId};
+use arrayvec::ArrayVec;
+use it_types::{CallNo, E_OK, E_TMOUT, Er, ObjId, TaskId};
 use spec_kernel::{WaitReason, WaitingCall};
 
 /// The deadline of the call is at or before `now`.
@@ -108,5 +110,14 @@ impl Parts {
             Some(place) => Some(self.waits.remove(place)),
             None => None,
         }
+    }
+
+    /// One tick of the clock. Gives the cyclic handlers that come due.
+    pub(crate) fn tick(&mut self) -> ArrayVec<ObjId, 8>
+        requires { self.old.clock.now < 2 ^ 60 }
+        ensures parts { self.new ≡ record self.old { clock = ticked_clock self.old.clock } }
+        ensures due { result.items ≡ due_at_tick self.old.clock }
+    {
+        self.clock.tick()
     }
 }

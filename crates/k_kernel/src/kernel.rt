@@ -88,7 +88,7 @@ impl Kernel {
         // No call ends.
         ensures rest { (tick self.old).ends ≡ [] }
     {
-        self.parts.clock.tick()
+        self.parts.tick()
     }
 
     /// Ends the call of the least number whose deadline is at or before now (µITRON4.0 section 2.1, time-outs; 4.2, `dly_tsk`): a

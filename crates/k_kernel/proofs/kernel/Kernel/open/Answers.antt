@@ -1,0 +1,8 @@
+use Rattle.std.proofs.Common.{◌≡◌, ap, subst, sym, ◌∙◌}
+use Rattle.spec_kernel.specs.WholeParts.{PlainParts}
+use Rattle.k_kernel.specs.Tied.{Tied}
+use Rattle.k_kernel.proofs.AtOpening.{opened_tied, parts_at_opening}
+use Rattle.k_kernel.proofs.kernel.Kernel.open.Goals as goal
+
+pub invariant_of-result : goal.invariant_of-result
+invariant_of-result c = rw (c.in_ok-clock.ensures, c.in_ok-tasks.ensures, c.in_ok-sems.ensures, c.in_ok-flags.ensures, c.in_ok-dtqs.ensures, c.new.ensures) (opened_tied c.args.conf.now c.requires)
