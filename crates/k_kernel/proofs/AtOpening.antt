@@ -1,5 +1,5 @@
 -- The parts of a kernel at its opening: no call waits.
-use Rattle.std.proofs.Common.{◌≡◌, Bool, true, false, not, List, [], ◌∷◌, Some, slice_set, refl, ap, sym, ◌∙◌}
+use Rattle.std.proofs.Common.{◌≡◌, Bool, true, false, not, List, [], ◌∷◌, Some, slice_set, refl, ap, ◌∙◌}
 use Rattle.it_types.specs.declared.conf.KConf.{KConf}
 use Rattle.it_types.specs.declared.conf.TaskDecl.{TaskDecl}
 use Rattle.spec_kernel.specs.PlainTasks.{PlainTasks, joining_unless}
@@ -8,7 +8,6 @@ use Rattle.spec_kernel.specs.PlainSemaphores.{opened as opened_semaphores}
 use Rattle.spec_kernel.specs.PlainFlags.{opened as opened_flags}
 use Rattle.spec_kernel.specs.PlainQueues.{opened as opened_queues}
 use Rattle.spec_kernel.specs.TaskOpening.{block_at_start, declared, all_declared, no_tasks, opened_tasks}
-use Rattle.spec_kernel.specs.WholeKernel.{waits_by_task}
 use Rattle.spec_kernel.specs.WholeOpening.{IsWholeDeclarable, opened}
 use Rattle.spec_kernel.specs.WholeParts.{PlainParts, parts_of}
 use Rattle.laws_calls.proofs.Opened.{opened_stands}

@@ -1,5 +1,5 @@
 -- A task that calls waits nowhere.
-use Rattle.std.proofs.Common.{◌≡◌, false, true, not, ◌&&◌, refl}
+use Rattle.std.proofs.Common.{◌≡◌, false, not, ◌&&◌, refl}
 use Rattle.it_types.specs.declared.context.Ctx.{Ctx}
 use Rattle.it_types.specs.declared.context.Ctx.TheVariants.{Task, Handler}
 use Rattle.it_types.specs.Callers.{caller, is_handler}

@@ -8,7 +8,6 @@ use Rattle.it_types.specs.declared.id.TaskId.{TaskId}
 use Rattle.it_types.specs.declared.id.CallNo.{CallNo}
 use Rattle.it_types.specs.declared.timeout.Tmo.{Tmo}
 use Rattle.it_types.specs.declared.context.Ctx.{Ctx}
-use Rattle.it_types.specs.declared.context.Ctx.TheVariants as contexts
 use Rattle.spec_lists.specs.Tables.{get, change}
 use Rattle.spec_lists.specs.First.{take_first}
 use Rattle.spec_lists.proofs.Firsts.{some_parts, none_parts, none_weaker}

@@ -1,9 +1,8 @@
 -- What the kernel does, from what its parts do.
-use Rattle.std.proofs.Common.{◌≡◌, ◌≢◌, ℕ, ◌+◌, ◌++◌, List, [], ◌∷◌, length, Option, Some, None, Bool, true, false, refl, sym, ap, subst, ◌∙◌}
+use Rattle.std.proofs.Common.{◌≡◌, ◌≢◌, ◌++◌, List, [], length, Some, None, Bool, true, false, refl, sym, ap, subst, ◌∙◌}
 use Rattle.it_types.specs.declared.id.TaskId.{TaskId}
 use Rattle.it_types.specs.declared.id.CallNo.{CallNo}
 use Rattle.it_types.specs.declared.context.Ctx.{Ctx}
-use Rattle.it_types.specs.declared.context.Ctx.TheVariants.{Task}
 use Rattle.it_types.specs.declared.timeout.Tmo.{Tmo}
 use Rattle.it_types.specs.declared.kernel_request.KReq.{KReq}
 use Rattle.spec_lists.specs.First.{take_first}
@@ -17,15 +16,14 @@ use Rattle.spec_kernel.specs.WholeParts.{PlainParts, parts_of, whole_of}
 use Rattle.spec_kernel.specs.WholeStanding.{IsStanding}
 use Rattle.spec_kernel.specs.WholeSettle.{AtRest, WholeOutcome, ending, ended, settled}
 use Rattle.spec_kernel.specs.WholeSettle.{settle as whole_settle}
-use Rattle.spec_kernel.specs.WholeRows.{call, quiet, tick, ticked}
+use Rattle.spec_kernel.specs.WholeRows.{call, tick, ticked}
 use Rattle.spec_kernel.specs.WholeRows.{row as whole_row}
 use Rattle.spec_kernel.specs.WholeTime.{blocked, code_by_time, due, is_next_past, is_outside_of, next_past, unblocked, unblocked_at}
 use Rattle.laws_calls.specs.Calling.{Calls}
 use Rattle.laws_calls.proofs.Settling.{call_rests}
-use Rattle.laws_calls.proofs.Resting.{blocked_rests, due_alone, ended_rests, tick_alone, same_ready}
+use Rattle.laws_calls.proofs.Resting.{blocked_rests, due_alone, ended_rests, tick_alone}
 use Rattle.laws_calls.proofs.Standing.{ended_stands}
 use Rattle.laws_calls.proofs.Stands.{blocked_stands, call_stands, row_stands, ticked_stands}
-use Rattle.laws_calls.proofs.Timing.{due_none, next_past_none}
 use Rattle.k_kernel.specs.declared.done.Done.{Done}
 use Rattle.k_kernel.specs.Callers.{MayCall, MayCallAs}
 use Rattle.k_kernel.specs.Does.{Does}

@@ -9,7 +9,6 @@ use Rattle.spec_lists.specs.First.{put_back, take_first}
 use Rattle.spec_lists.specs.Counting.{times}
 use Rattle.spec_lists.proofs.Firsts.{at_first, past_first, some_parts}
 use Rattle.spec_lists.proofs.Counting.{one_if-same, times-found}
-use Rattle.spec_kernel.specs.declared.task_wait.TaskWait.TheVariants as task_waits
 use Rattle.spec_kernel.specs.declared.reason.WaitReason.{WaitReason}
 use Rattle.spec_kernel.specs.declared.reason.WaitReason.TheVariants as reasons
 use Rattle.spec_kernel.specs.declared.reason.WaitingCall.{WaitingCall}

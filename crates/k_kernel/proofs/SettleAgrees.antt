@@ -5,7 +5,7 @@ use Rattle.std.specs.Prelude.{slice_set}
 use Rattle.std.proofs.lemmas.Bool.{cases_Bool}
 use Rattle.it_types.specs.declared.id.TaskId.{TaskId}
 use Rattle.it_types.specs.declared.er.TheConstants.{E_OK}
-use Rattle.spec_lists.specs.Tables.{get, change}
+use Rattle.spec_lists.specs.Tables.{get}
 use Rattle.spec_lists.specs.First.{take_first}
 use Rattle.spec_lists.proofs.Firsts.{some_parts}
 use Rattle.spec_kernel.specs.declared.outcome.KEnd.{KEnd}

@@ -1,7 +1,6 @@
 -- One turn of the ends of calls.
 use Rattle.std.proofs.Common.{◌≡◌, ℕ, zero, suc, ◌+◌, List, [], ◌∷◌, length, Some, None, refl, ap, sym, ◌∙◌, arith}
 use Rattle.spec_kernel.specs.declared.reason.WaitingCall.{WaitingCall}
-use Rattle.spec_kernel.specs.declared.outcome.KEnd.{KEnd}
 use Rattle.spec_kernel.specs.WholeParts.{PlainParts}
 use Rattle.k_kernel.specs.PartsSettle.{next_call, freed_call, end_told, turn, settle}
 

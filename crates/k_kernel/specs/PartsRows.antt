@@ -1,5 +1,5 @@
 -- The calls of the kernel as its parts make them, one part after another: it is proved that this is what the whole kernel does.
-use Rattle.std.specs.Prelude.{ℕ, ◌+◌, Bool, true, false, not, ◌&&◌, ◌||◌, List, [], ◌∷◌, ◌++◌, Option, Some, None, if◌then◌else◌}
+use Rattle.std.specs.Prelude.{ℕ, ◌+◌, Bool, false, not, ◌&&◌, ◌||◌, List, [], ◌∷◌, ◌++◌, Option, Some, None, if◌then◌else◌}
 use Rattle.std.specs.Int.{is_negative}
 use Rattle.it_types.specs.declared.id.TaskId.{TaskId}
 use Rattle.it_types.specs.declared.id.CallNo.{CallNo}
@@ -18,7 +18,7 @@ use Rattle.spec_kernel.specs.declared.did.Did.{Did}
 use Rattle.spec_kernel.specs.declared.handed.Handed.{Handed}
 use Rattle.spec_kernel.specs.declared.task_wait.TaskWait.TheVariants.{Other}
 use Rattle.spec_kernel.specs.declared.outcome.KAns.{KAns}
-use Rattle.spec_kernel.specs.declared.outcome.KAns.TheVariants.{Now, Pends, Quiet}
+use Rattle.spec_kernel.specs.declared.outcome.KAns.TheVariants.{Now, Pends}
 use Rattle.spec_kernel.specs.declared.outcome.KEnd.{KEnd}
 use Rattle.spec_kernel.specs.declared.reason.WaitReason.{WaitReason}
 use Rattle.spec_kernel.specs.declared.reason.WaitReason.TheVariants as reasons
@@ -29,7 +29,7 @@ use Rattle.spec_kernel.specs.PlainTasks.{PlainTasks, block_of, waiting, woken}
 use Rattle.spec_kernel.specs.TaskRows.{TaskDone, act_tsk, can_act, ext_tsk, ter_tsk, chg_pri, get_pri, tslp_tsk, wup_tsk, can_wup, rel_wai, sus_tsk, rsm_tsk, frsm_tsk, dly_tsk, rot_rdq, get_tid, named}
 use Rattle.spec_kernel.specs.PlainSemaphores.{left as left_semaphores, reprioritised as semaphores_reprioritised, is_by_priority as is_ordered_semaphore}
 use Rattle.spec_kernel.specs.PlainFlags.{left as left_flags, reprioritised as flags_reprioritised, is_by_priority as is_ordered_flag}
-use Rattle.spec_kernel.specs.PlainQueues.{PlainQueues, left as left_queues, reprioritised as queues_reprioritised, is_by_priority as is_ordered_queue, handed_bytes}
+use Rattle.spec_kernel.specs.PlainQueues.{left as left_queues, reprioritised as queues_reprioritised, is_by_priority as is_ordered_queue, handed_bytes}
 use Rattle.spec_kernel.specs.SemaphoreRows.{SemaphoresDone, sig_sem, twai_sem}
 use Rattle.spec_kernel.specs.FlagRows.{FlagsDone, set_flg, clr_flg, twai_flg}
 use Rattle.spec_kernel.specs.QueueRows.{QueuesDone, tsnd_dtq, fsnd_dtq, trcv_dtq}

@@ -68,14 +68,7 @@ impl Parts {
     }
 
     /// Sends an item to a data queue (µITRON4.0 section 4.4.3, `tsnd_dtq`).
-    pub(crate) fn tsnd_dtq(
-        &mut self,
-        ctx: Ctx,
-        dtq: ObjId,
-        item: u32,
-        tmo: Tmo,
-        no: CallNo,
-    ) -> Done
+    pub(crate) fn tsnd_dtq(&mut self, ctx: Ctx, dtq: ObjId, item: u32, tmo: Tmo, no: CallNo) -> Done
         requires settled { next_at_queues self.old.dtqs ≡ None }
         requires task { is_poll tmo ≡ false → is_handler ctx ≡ false }
         requires caller { MayCall self.old ctx }
@@ -86,9 +79,7 @@ impl Parts {
     {
         let pri = self.priority_in(ctx);
         let rank = self.tasks.next_rank();
-        let synced = self
-            .dtqs
-            .tsnd_dtq(dtq, item, tmo, ctx.caller(), pri, rank);
+        let synced = self.dtqs.tsnd_dtq(dtq, item, tmo, ctx.caller(), pri, rank);
         self.answer_or_hand_over(ctx, synced, WaitReason::Send(dtq, item), tmo, no)
     }
 

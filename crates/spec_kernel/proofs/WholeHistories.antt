@@ -1,20 +1,16 @@
 -- Worked histories of the whole kernel, checked by computation.
-use Rattle.std.proofs.Common.{◌≡◌, ℕ, zero, suc, ◌+◌, Bool, true, false, List, [], ◌∷◌, Option, Some, None, refl}
+use Rattle.std.proofs.Common.{◌≡◌, ℕ, zero, suc, ◌+◌, true, false, List, [], ◌∷◌, Option, Some, None, refl}
 use Rattle.std.specs.Prelude.{ℤ, pos, negsuc}
 use Rattle.it_types.specs.declared.id.TaskId.{TaskId}
 use Rattle.it_types.specs.declared.id.ObjId.{ObjId}
-use Rattle.it_types.specs.declared.id.CallNo.{CallNo}
-use Rattle.it_types.specs.declared.er.Er.{Er}
-use Rattle.it_types.specs.declared.conf.KConf.{KConf}
 use Rattle.it_types.specs.declared.conf.TaskDecl.{TaskDecl}
 use Rattle.it_types.specs.declared.conf.SemDecl.{SemDecl}
 use Rattle.it_types.specs.declared.conf.FlgDecl.{FlgDecl}
 use Rattle.it_types.specs.declared.conf.DtqDecl.{DtqDecl}
-use Rattle.it_types.specs.declared.context.Ctx.{Ctx}
 use Rattle.it_types.specs.declared.context.Ctx.TheVariants as contexts
-use Rattle.it_types.specs.declared.timeout.Tmo.TheVariants.{Pol, Nblk, Fevr, Ms}
+use Rattle.it_types.specs.declared.timeout.Tmo.TheVariants.{Pol, Fevr, Ms}
 use Rattle.it_types.specs.declared.kernel_request.KReq.{KReq}
-use Rattle.it_types.specs.declared.kernel_request.KReq.TheVariants.{ActTsk, CanAct, ExtTsk, TerTsk, ChgPri, GetPri, TslpTsk, WupTsk, CanWup, RelWai, SusTsk, RsmTsk, FrsmTsk, DlyTsk, RotRdq, GetTid, SigSem, TwaiSem, SetFlg, ClrFlg, TwaiFlg, TsndDtq, FsndDtq, TrcvDtq, SetTim, GetTim, StaCyc, StpCyc}
+use Rattle.it_types.specs.declared.kernel_request.KReq.TheVariants.{ActTsk, ExtTsk, TerTsk, ChgPri, TslpTsk, WupTsk, CanWup, RelWai, SusTsk, RsmTsk, DlyTsk, GetTid, SigSem, TwaiSem, SetFlg, TwaiFlg, TsndDtq, FsndDtq, TrcvDtq, GetTim}
 use Rattle.spec_kernel.specs.declared.outcome.KAns.{KAns}
 use Rattle.spec_kernel.specs.declared.outcome.KAns.TheVariants.{Now, Pends, Quiet}
 use Rattle.spec_kernel.specs.declared.outcome.KEnd.{KEnd}
@@ -23,7 +19,7 @@ use Rattle.spec_kernel.specs.PlainTasks.{running}
 use Rattle.spec_kernel.specs.WholeSettle.{WholeOutcome, settle, settled}
 use Rattle.spec_kernel.specs.WholeOpening.{opened}
 use Rattle.spec_kernel.specs.WholeRows.{call, tick}
-use Rattle.spec_kernel.specs.WholeTime.{due, blocked, unblocked}
+use Rattle.spec_kernel.specs.WholeTime.{due, blocked}
 
 -- what is told of an event: the answer, the ends, the tasks that ended and began, and which task runs then
 record Told : Type 0 where

@@ -10,7 +10,7 @@ use Rattle.spec_kernel.specs.PlainSemaphores.{opened as opened_semaphores, AreDe
 use Rattle.spec_kernel.specs.PlainFlags.{opened as opened_flags, AreDeclarable as AreFlags}
 use Rattle.spec_kernel.specs.PlainQueues.{opened as opened_queues, AreDeclarable as AreQueues}
 use Rattle.spec_kernel.specs.PlainClock.{opened_clock, are_new_cyclics, greatest_cyclic}
-use Rattle.spec_kernel.specs.WholeKernel.{WholeKernel, with_tasks}
+use Rattle.spec_kernel.specs.WholeKernel.{WholeKernel}
 
 abbrev pub opened : KConf → WholeKernel
 opened conf = let tasks = opened_tasks conf.tasks.tasks in record {

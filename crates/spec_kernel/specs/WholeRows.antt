@@ -1,9 +1,8 @@
 -- The kernel calls (µITRON4.0 chapter 4): for each whether it may be made in a handler, and then what its part makes of it. A call that a
 -- part leaves to wait is accepted here, under a number and with its deadline.
-use Rattle.std.specs.Prelude.{ℕ, ◌+◌, Bool, true, false, not, ◌&&◌, ◌||◌, ◌==◌, List, [], ◌∷◌, ◌++◌, Option, Some, None, if◌then◌else◌}
+use Rattle.std.specs.Prelude.{ℕ, ◌+◌, Bool, true, false, not, ◌&&◌, ◌==◌, List, [], ◌∷◌, ◌++◌, Option, Some, None, if◌then◌else◌}
 use Rattle.std.specs.Int.{is_negative}
 use Rattle.it_types.specs.declared.id.TaskId.{TaskId}
-use Rattle.it_types.specs.declared.id.ObjId.{ObjId}
 use Rattle.it_types.specs.declared.id.CallNo.{CallNo}
 use Rattle.it_types.specs.declared.er.Er.{Er}
 use Rattle.it_types.specs.declared.er.TheConstants.{E_OK, E_CTX, E_RLWAI, E_TMOUT}
@@ -17,7 +16,6 @@ use Rattle.it_types.specs.declared.kernel_request.KReq.TheVariants.{ActTsk, CanA
 use Rattle.it_types.specs.Callers.{nobody, is_handler, caller, is_poll}
 use Rattle.spec_lists.specs.Tables.{get}
 use Rattle.spec_lists.specs.First.{take_first}
-use Rattle.spec_lists.specs.Refusal.{first_refusal}
 use Rattle.spec_kernel.specs.declared.did.Did.{Did}
 use Rattle.spec_kernel.specs.declared.handed.Handed.{Handed}
 use Rattle.spec_kernel.specs.declared.outcome.KAns.{KAns}
@@ -34,9 +32,9 @@ use Rattle.spec_kernel.specs.TaskRows.{TaskDone, act_tsk, can_act, ext_tsk, ter_
 use Rattle.spec_kernel.specs.Waiting.{is_by_priority}
 use Rattle.spec_kernel.specs.SemaphoreRows.{SemaphoresDone, sig_sem, twai_sem}
 use Rattle.spec_kernel.specs.FlagRows.{FlagsDone, set_flg, clr_flg, twai_flg}
-use Rattle.spec_kernel.specs.PlainQueues.{PlainQueues, handed_bytes}
+use Rattle.spec_kernel.specs.PlainQueues.{handed_bytes}
 use Rattle.spec_kernel.specs.QueueRows.{QueuesDone, tsnd_dtq, fsnd_dtq, trcv_dtq}
-use Rattle.spec_kernel.specs.PlainClock.{PlainClock, time_set, answer_on, sta_cyc, stp_cyc, ticked_clock}
+use Rattle.spec_kernel.specs.PlainClock.{time_set, answer_on, sta_cyc, stp_cyc, ticked_clock}
 use Rattle.spec_kernel.specs.WholeKernel.{WholeKernel, is_of, task_wait, tasks_of, with_tasks, semaphores_of, flags_of, queues_of, with_objects}
 use Rattle.spec_kernel.specs.WholeSettle.{WholeOutcome, ending, ended, settled}
 

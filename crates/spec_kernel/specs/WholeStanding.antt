@@ -1,6 +1,6 @@
 -- How tasks and calls stand in the whole kernel at any time (µITRON4.0 section 3.2): which tasks are runnable is told by the tasks and the
 -- calls that wait themselves, and the list has just these.
-use Rattle.std.specs.Prelude.{◌≡◌, ℕ, ◌≤◌, ◌<◌, Bool, true, not, ◌&&◌, List, [], ◌∷◌, length, Option, None, ◌==◌}
+use Rattle.std.specs.Prelude.{◌≡◌, ℕ, ◌≤◌, ◌<◌, Bool, true, not, ◌&&◌, List, [], ◌∷◌, length, None}
 use Rattle.std.specs.List.{list_any}
 use Rattle.it_types.specs.declared.id.TaskId.{TaskId}
 use Rattle.spec_lists.specs.Tables.{get}

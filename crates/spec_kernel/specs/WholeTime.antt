@@ -12,7 +12,6 @@ use Rattle.spec_lists.specs.First.{take_first}
 use Rattle.spec_kernel.specs.declared.reason.WaitReason.{WaitReason}
 use Rattle.spec_kernel.specs.declared.reason.WaitReason.TheVariants as reasons
 use Rattle.spec_kernel.specs.declared.reason.WaitingCall.{WaitingCall}
-use Rattle.spec_kernel.specs.declared.outcome.KEnd.{KEnd}
 use Rattle.spec_kernel.specs.WholeKernel.{WholeKernel, is_of}
 use Rattle.spec_kernel.specs.WholeSettle.{WholeOutcome, is_outside, ending, ended, settled}
 use Rattle.spec_kernel.specs.WholeRows.{with_wait, quiet}

@@ -1,4 +1,3 @@
-use Rattle.std.proofs.Common.{refl}
 use Rattle.spec_lists.proofs.Places.{searched, searched_none}
 use Rattle.spec_kernel.specs.WholeKernel.{is_of}
 use Rattle.k_kernel.proofs.searching.take_out.Goals as goal

@@ -1,4 +1,4 @@
-use Rattle.std.proofs.Common.{◌≡◌, ap, ◌∙◌}
+use Rattle.std.proofs.Common.{ap, ◌∙◌}
 use Rattle.spec_kernel.specs.PlainTasks.{running}
 use Rattle.spec_kernel.specs.WholeKernel.{WholeKernel, tasks_of}
 use Rattle.spec_kernel.specs.WholeTime.{blocked}

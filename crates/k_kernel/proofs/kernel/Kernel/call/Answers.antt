@@ -1,5 +1,4 @@
-use Rattle.std.proofs.Common.{◌≡◌, ap, subst, sym, ◌∙◌}
-use Rattle.spec_kernel.specs.WholeKernel.{WholeKernel}
+use Rattle.std.proofs.Common.{subst, sym}
 use Rattle.spec_kernel.specs.WholeParts.{whole_of}
 use Rattle.spec_kernel.specs.WholeRows.{call}
 use Rattle.laws_calls.specs.Calling.{Calls}
@@ -23,5 +22,5 @@ invariant_of-self c =
 pub returns : goal.returns
 returns c =
     subst (λ k. DoesWhole (whole_of c.settle.new.self) c.settle.new.done (call k c.args.ctx c.args.req.now c.args.no)) c.self.view_is
-        (call_does c.self.invariant c.args.ctx c.args.req.now c.args.no (subst (λ k. Calls k c.args.ctx) (sym c.self.view_is) c.requires.caller) c.row-done.ensures.does
-            c.settle.new.self c.settle.new.done c.settle.ensures.parts c.settle.ensures.ends c.settle.ensures.answer c.settle.ensures.gone c.settle.ensures.begun)
+    (call_does c.self.invariant c.args.ctx c.args.req.now c.args.no (subst (λ k. Calls k c.args.ctx) (sym c.self.view_is) c.requires.caller) c.row-done.ensures.does
+    c.settle.new.self c.settle.new.done c.settle.ensures.parts c.settle.ensures.ends c.settle.ensures.answer c.settle.ensures.gone c.settle.ensures.begun)

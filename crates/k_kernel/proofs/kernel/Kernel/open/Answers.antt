@@ -1,7 +1,4 @@
-use Rattle.std.proofs.Common.{◌≡◌, ap, subst, sym, ◌∙◌}
-use Rattle.spec_kernel.specs.WholeParts.{PlainParts}
-use Rattle.k_kernel.specs.Tied.{Tied}
-use Rattle.k_kernel.proofs.AtOpening.{opened_tied, parts_at_opening}
+use Rattle.k_kernel.proofs.AtOpening.{opened_tied}
 use Rattle.k_kernel.proofs.kernel.Kernel.open.Goals as goal
 
 pub invariant_of-result : goal.invariant_of-result

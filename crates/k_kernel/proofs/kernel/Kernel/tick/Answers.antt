@@ -1,4 +1,4 @@
-use Rattle.std.proofs.Common.{◌≡◌, ap, sym, ◌∙◌}
+use Rattle.std.proofs.Common.{ap, sym, ◌∙◌}
 use Rattle.spec_kernel.specs.WholeRows.{tick}
 use Rattle.k_kernel.proofs.KernelSteps.{tick_does, tick_ends, tick_tied}
 use Rattle.k_kernel.proofs.kernel.Kernel.tick.Goals as goal

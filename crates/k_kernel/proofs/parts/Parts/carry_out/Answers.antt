@@ -1,4 +1,4 @@
-use Rattle.std.proofs.Common.{sym, subst, ap, ◌∙◌, ◌≡◌, ◌&&◌, not, false}
+use Rattle.std.proofs.Common.{sym, subst, ap, ◌∙◌, ◌&&◌, not}
 use Rattle.it_types.specs.declared.kernel_request.KReq.{KReq}
 use Rattle.it_types.specs.Callers.{is_handler}
 use Rattle.spec_kernel.specs.WholeParts.{PlainParts}

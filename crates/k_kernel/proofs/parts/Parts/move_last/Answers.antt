@@ -1,5 +1,5 @@
-use Rattle.std.proofs.Common.{◌≡◌, Some, refl, sym, ap, ◌∙◌}
-use Rattle.std.specs.List.{position, remove}
+use Rattle.std.proofs.Common.{◌≡◌, Some, sym, ap, ◌∙◌}
+use Rattle.std.specs.List.{position}
 use Rattle.spec_lists.proofs.Places.{place_found, no_place}
 use Rattle.spec_kernel.specs.WholeParts.{PlainParts}
 use Rattle.k_kernel.specs.PartsRows.{moved, waits_in_order, last_in_its_queue}

@@ -1,6 +1,5 @@
 use Rattle.std.proofs.Common.{◌≡◌, Some, true, refl, sym, ap, subst, ◌∙◌}
 use Rattle.std.specs.List.{position}
-use Rattle.spec_lists.specs.First.{take_first}
 use Rattle.spec_lists.proofs.Places.{place_found, no_place}
 use Rattle.spec_kernel.specs.declared.reason.WaitingCall.{WaitingCall}
 use Rattle.spec_kernel.specs.WholeParts.{PlainParts}
@@ -10,7 +9,13 @@ use Rattle.k_kernel.proofs.parts.Parts.take_next.Goals as goal
 pub returns-in-Some-clause-call : goal.returns-in-Some-clause-call
 returns-in-Some-clause-call c =
     let p : PlainParts = record {
-      clock = c.self.inside.clock; tasks = c.self.inside.tasks; sems = c.self.inside.sems; flags = c.self.inside.flags; dtqs = c.self.inside.dtqs; waits = c.self.inside.waits.items; last_call = c.self.inside.last_call.0;
+      clock = c.self.inside.clock;
+      tasks = c.self.inside.tasks;
+      sems = c.self.inside.sems;
+      flags = c.self.inside.flags;
+      dtqs = c.self.inside.dtqs;
+      waits = c.self.inside.waits.items;
+      last_call = c.self.inside.last_call.0;
     } in
     let place_is : position (is_named p) p.waits ≡ Some c.in-Some.place = ap (λ (q : PlainParts). position (is_named q) q.waits) c.self.view_is ∙ sym c.next_place.ensures ∙ c.in-Some.is in
     let first = (place_found (is_named p) p.waits c.in-Some.place place_is).first c.remove.result c.remove.ensures.value in
@@ -19,7 +24,13 @@ returns-in-Some-clause-call c =
 pub returns-in-Some-clause-named : goal.returns-in-Some-clause-named
 returns-in-Some-clause-named c = λ w is.
     let p : PlainParts = record {
-      clock = c.self.inside.clock; tasks = c.self.inside.tasks; sems = c.self.inside.sems; flags = c.self.inside.flags; dtqs = c.self.inside.dtqs; waits = c.self.inside.waits.items; last_call = c.self.inside.last_call.0;
+      clock = c.self.inside.clock;
+      tasks = c.self.inside.tasks;
+      sems = c.self.inside.sems;
+      flags = c.self.inside.flags;
+      dtqs = c.self.inside.dtqs;
+      waits = c.self.inside.waits.items;
+      last_call = c.self.inside.last_call.0;
     } in
     let place_is : position (is_named p) p.waits ≡ Some c.in-Some.place = ap (λ (q : PlainParts). position (is_named q) q.waits) c.self.view_is ∙ sym c.next_place.ensures ∙ c.in-Some.is in
     let passes : is_named p c.remove.result ≡ true = ap (is_named p) c.remove.ensures.value ∙ (place_found (is_named p) p.waits c.in-Some.place place_is).passes c.remove.result in
