@@ -36,7 +36,8 @@ use Rattle.k_sync.specs.Waiting.{MayWait}
 use Rattle.k_kernel.specs.Callers.{MayCall, MayCallAs}
 use Rattle.k_kernel.specs.PartsRows.{with_wait as parts_with_wait}
 use Rattle.k_kernel.specs.PartsTime.{ended_call}
-use Rattle.k_kernel.proofs.Views.{waiters_among, same_waiters, waiters_left, waits_left}
+use Rattle.k_kernel.proofs.Views.{waiters_among, waiters_left, waits_left}
+use Rattle.k_kernel.proofs.RowsAgreeSeen.{alike_by_priority, same_seen}
 use Rattle.k_kernel.proofs.NextAgrees.{first_of_kind, seen, semaphores_find, flags_find, queues_find, sees_found}
 use Rattle.k_kernel.proofs.SettleAgrees.{released_is}
 use Rattle.k_kernel.proofs.RowsAgreeTasks.{same_parts}
@@ -105,7 +106,7 @@ module _ (k : WholeKernel) (s : IsStanding k) (rest : AtRest k) (f : WaitingCall
   ended_seen : (kind : WaitReason → Bool) → left_by w.task (waiters_for kind k) ≡ waiters_among kind (ended k w others) others
   ended_seen kind =
       let tasks : (ended k w others).tasks ≡ k.tasks = ap (λ (d : PlainTasks). d.tasks) (released_is (tasks_of k) w.task) in
-      sym (waiters_left kind k f k.waits w others found s.once) ∙ same_waiters kind k (ended k w others) others (λ id le. ap (λ ts. priority_of (get ts id)) (sym tasks)) (λ r. refl)
+      sym (waiters_left kind k f k.waits w others found s.once) ∙ same_seen kind (ended k w others) k others (alike_by_priority kind (ended k w others) k others (λ r. refl) (λ id le. ap (λ ts. priority_of (get ts id)) (sym tasks)))
 
 -- a call that was found ends, and takes nothing
 pub ended_agrees : (k : WholeKernel) (f : WaitingCall → Bool) (w : WaitingCall) (others : List WaitingCall)

@@ -32,7 +32,8 @@ use Rattle.spec_kernel.specs.WholeParts.{PlainParts, parts_of}
 use Rattle.spec_kernel.specs.WholeStanding.{IsStanding}
 use Rattle.laws_calls.proofs.Stands.{freed_stands}
 use Rattle.k_kernel.specs.PartsSettle.{next_at, next_call, bytes_told, end_told, semaphores_let_go, flags_let_go, queues_let_go, freed_call, turn, settle}
-use Rattle.k_kernel.proofs.Views.{waiters_among, same_waiters, waits_left}
+use Rattle.k_kernel.proofs.Views.{waiters_among, waits_left}
+use Rattle.k_kernel.proofs.RowsAgreeSeen.{alike_by_priority, same_seen}
 use Rattle.k_kernel.proofs.NextAgrees.{first_of_both, first_of_kind, seen, semaphores_find, flags_find, queues_find, sees_found, next_agrees}
 use Rattle.k_kernel.proofs.RowsAgreeObjects.{order_kept as kept_by_change}
 use Rattle.k_kernel.proofs.RowsAgreeTasks.{same_parts, priorities_kept}
@@ -135,7 +136,7 @@ module _ (k : WholeKernel) (s : IsStanding k) (w : WaitingCall) (others : List W
 
   -- the objects see the others as before
   others_seen : (kind : WaitReason → Bool) → waiters_among kind k others ≡ waiters_among kind (freed k w others) others
-  others_seen kind = same_waiters kind k (freed k w others) others (λ id le. sym (woken_priority (tasks_of k) w.task id)) (λ r. sym (order_kept k.objects w.reason r))
+  others_seen kind = same_seen kind (freed k w others) k others (alike_by_priority kind (freed k w others) k others (λ r. sym (order_kept k.objects w.reason r)) (λ id le. sym (woken_priority (tasks_of k) w.task id)))
 
   unseen : (kind : WaitReason → Bool) → kind w.reason ≡ false → waiters_for kind k ≡ waiters_among kind (freed k w others) others
   unseen kind h = sym (elsewhere_left kind k (comes_next k) k.waits (w, others) found h) ∙ others_seen kind

@@ -1,4 +1,4 @@
--- What the parts of a kernel see of the calls that wait, after one more call, after one fewer, and in another kernel.
+-- What the parts of a kernel see of the calls that wait, after one more call and after one fewer.
 use Rattle.std.proofs.Common.{◌≡◌, ◌≢◌, ℕ, zero, suc, ◌+◌, ◌<◌, ◌≤◌, Bool, true, false, map, List, [], ◌∷◌, ◌++◌, Option, Some, None, refl, ap, sym, ◌∙◌, subst, inl, inr, arith}
 use Rattle.std.specs.Prelude.{filter, slice_set}
 use Rattle.std.proofs.lemmas.Bool.{cases_Bool, cases_eq, eq-eqb, ne_eqb}
@@ -109,26 +109,6 @@ module _ (kind : WaitReason → Bool) (k : WholeKernel) where
       → AreOnce ws
       → waiters_among kind k others ≡ left_by w.task (waiters_among kind k ws)
   waiters_left f ws w others e once = leaves w.task f ws (w, others) e refl (once w.task.0)
-
--- the objects see the same of the same calls where the tasks that wait have the same priorities, and queues the same order
-pub same_waiter : (k l : WholeKernel) (w : WaitingCall)
-    → priority_of (get k.tasks w.task.0) ≡ priority_of (get l.tasks w.task.0)
-    → is_by_priority k.objects w.reason ≡ is_by_priority l.objects w.reason
-    → waiter_of k w ≡ waiter_of l w
-same_waiter k l w p o = rw (p, o) refl
-
-pub same_waiters : (kind : WaitReason → Bool) (k l : WholeKernel) (ws : List WaitingCall)
-    → ((id : ℕ) → 1 ≤ times waiting_number id ws → priority_of (get k.tasks id) ≡ priority_of (get l.tasks id))
-    → ((reason : WaitReason) → is_by_priority k.objects reason ≡ is_by_priority l.objects reason)
-    → waiters_among kind k ws ≡ waiters_among kind l ws
-same_waiters kind k l [] priorities order = refl
-same_waiters kind k l (w ∷ ws) priorities order =
-    let rest = same_waiters kind k l ws (λ id le. priorities id (omega (arith, le))) order in
-    let first : waiter_of k w ≡ waiter_of l w = same_waiter k l w (priorities w.task.0 (omega (arith, one_if-same w.task.0 w.task.0 refl))) (order w.reason) in
-    elim (cases_Bool (kind w.reason)) [
-      | inl h ↦ rw h (ap (λ v. v ∷ waiters_among kind k ws) first ∙ ap (λ vs. waiter_of l w ∷ vs) rest)
-      | inr h ↦ rw h rest
-    ]
 
 -- ---- what the tasks see
 
