@@ -64,6 +64,13 @@ impl Kernel {
         self.parts.last_call.0 < no.0
     }
 
+    /// The rank that the next call that waits is given.
+    pub fn next_rank(&self) -> u64
+        ensures { result ≡ self.now.next_rank }
+    {
+        self.parts.tasks.next_rank()
+    }
+
     /// Makes a call of the kernel under a number above that of each call that waited. A task calls only while it runs. A refused
     /// call changes nothing.
     pub fn call(&mut self, ctx: Ctx, req: &KReq, no: CallNo) -> Done

@@ -4,4 +4,6 @@
 #[cfg(test)]
 mod clock;
 #[cfg(test)]
+mod kernel;
+#[cfg(test)]
 mod tasks;
