@@ -4,19 +4,13 @@
 
 mod dtq_calls;
 mod dtq_ends;
-#[cfg(test)]
-mod dtq_tests;
 mod dtqs;
 mod flag_table;
-#[cfg(test)]
-mod flag_tests;
 mod flags;
 mod next;
 mod queue;
 mod queues;
 mod sem_table;
-#[cfg(test)]
-mod sem_tests;
 mod sems;
 mod waiters;
 

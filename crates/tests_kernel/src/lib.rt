@@ -4,6 +4,12 @@
 #[cfg(test)]
 mod clock;
 #[cfg(test)]
+mod data_queues;
+#[cfg(test)]
+mod flags;
+#[cfg(test)]
 mod kernel;
+#[cfg(test)]
+mod semaphores;
 #[cfg(test)]
 mod tasks;

@@ -1,7 +1,7 @@
 //! Semaphores that are opened with memory are those that were declared.
 
-use crate::Sems;
 use it_types::{E_NOEXS, E_OK, Er, List, ObjId, SemDecl, SyncConf, Synced, TaskId, Tmo};
+use k_sync::Sems;
 use std::test::Fail;
 
 /// The code of a call that is answered at once.

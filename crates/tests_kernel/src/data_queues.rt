@@ -3,10 +3,10 @@
 ghost use Rattle.std.specs.Prelude.{IfOk};
 ghost use Rattle.spec_kernel.specs.PlainQueues.{AreDeclarable};
 
-use crate::Dtqs;
 use it_types::{
     DtqDecl, E_ILUSE, E_NOEXS, E_OK, Er, List, NoMemory, ObjId, SyncConf, Synced, TaskId, Tmo,
 };
+use k_sync::Dtqs;
 use std::alloc::Global;
 use std::process::Abort;
 use std::test::*;

@@ -1,7 +1,7 @@
 //! Event flags that are opened with memory are those that were declared.
 
-use crate::Flags;
 use it_types::{E_ILUSE, E_NOEXS, E_OK, Er, FlgDecl, List, ObjId, SyncConf, Synced, TaskId, Tmo};
+use k_sync::Flags;
 use std::test::Fail;
 
 /// The code of a call that is answered at once, and the last of its bytes, if it has some.
