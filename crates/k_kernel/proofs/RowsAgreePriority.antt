@@ -145,10 +145,6 @@ module _ (k : WholeKernel) (s : IsStanding k) (t : TaskId) (after : PlainTasks) 
     last : WaitingCall
     last = record z.0 { rank = after.next_rank }
 
-    last_is : last ≡ record z.0 { rank = after.next_rank }
-    unfolding last
-    last_is = refl
-
     seen_left : (kind : WaitReason → Bool) → waiters_among kind (with_tasks k after) z.1 ≡ waiters_among kind k z.1
     seen_left kind = same_seen kind k (with_tasks k after) z.1 (alike_others kind k t after z.1 one (none_left t.0 (sym both.0)))
 

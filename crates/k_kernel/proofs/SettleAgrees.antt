@@ -31,7 +31,7 @@ use Rattle.spec_kernel.specs.WholeSettle.{turn as whole_turn, settle as whole_se
 use Rattle.spec_kernel.specs.WholeParts.{PlainParts, parts_of}
 use Rattle.spec_kernel.specs.WholeStanding.{IsStanding}
 use Rattle.laws_calls.proofs.Stands.{freed_stands}
-use Rattle.k_kernel.specs.PartsSettle.{next_at, next_call, bytes_told, end_told, semaphores_let_go, flags_let_go, queues_let_go, freed_call, turn, settle}
+use Rattle.k_kernel.specs.PartsSettle.{next_at, bytes_told, end_told, semaphores_let_go, flags_let_go, queues_let_go, freed_call, turn, settle}
 use Rattle.k_kernel.proofs.Views.{waiters_among, waits_left}
 use Rattle.k_kernel.proofs.RowsAgreeSeen.{alike_by_priority, same_seen}
 use Rattle.k_kernel.proofs.NextAgrees.{first_of_both, first_of_kind, seen, semaphores_find, flags_find, queues_find, sees_found, next_agrees}
@@ -216,15 +216,6 @@ module _ (k : WholeKernel) (s : IsStanding k) (w : WaitingCall) (others : List W
 
   pub end_agrees : end_told (parts_of k) w ≡ end_of k w
   end_agrees = ap (ending w E_OK) bytes_agree
-
--- one turn of the parts is the whole kernel's: the same call ends next, with the same code and bytes, and leaves the same kernel
-pub record IsSameTurn (k : WholeKernel) (w : WaitingCall) (others : List WaitingCall) : Type 0 where
-  pub after : freed_call (parts_of k) w others ≡ parts_of (freed k w others)
-  pub end : end_told (parts_of k) w ≡ end_of k w
-
-pub turn_agrees : (k : WholeKernel) → IsStanding k
-    → (next_call (parts_of k) ≡ next_freed k) × ((w : WaitingCall) (others : List WaitingCall) → next_freed k ≡ Some (w, others) → IsSameTurn k w others)
-turn_agrees k s = (next_agrees k s, λ w others e. record { after = freed_agrees k s w others e; end = end_agrees k s w others e })
 
 -- ---- all turns
 

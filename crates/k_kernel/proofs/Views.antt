@@ -2,7 +2,6 @@
 use Rattle.std.proofs.Common.{◌≡◌, ◌≢◌, ℕ, zero, suc, ◌+◌, ◌<◌, ◌≤◌, Bool, true, false, map, List, [], ◌∷◌, ◌++◌, Option, Some, None, refl, ap, sym, ◌∙◌, subst, inl, inr, arith}
 use Rattle.std.specs.Prelude.{filter, slice_set}
 use Rattle.std.proofs.lemmas.Bool.{cases_Bool, cases_eq, eq-eqb, ne_eqb}
-use Rattle.std.proofs.lemmas.List.{get_or_past}
 use Rattle.it_types.specs.declared.id.TaskId.{TaskId}
 use Rattle.spec_lists.specs.Tables.{get}
 use Rattle.spec_lists.specs.First.{put_back, take_first}
@@ -12,8 +11,6 @@ use Rattle.spec_lists.proofs.Counting.{one_if-same, times-found}
 use Rattle.spec_kernel.specs.declared.reason.WaitReason.{WaitReason}
 use Rattle.spec_kernel.specs.declared.reason.WaitingCall.{WaitingCall}
 use Rattle.spec_kernel.specs.declared.waiter.Waiter.{Waiter}
-use Rattle.spec_kernel.specs.TaskBlocks.{priority_of}
-use Rattle.spec_kernel.specs.Waiting.{is_by_priority}
 use Rattle.spec_kernel.specs.Waiters.{is_task, left_by, the_others}
 use Rattle.spec_kernel.specs.WholeKernel.{WholeKernel, is_of, task_wait, task_wait_of, waits_at, waits_by_task, all_places, waiter_of}
 use Rattle.spec_kernel.specs.WholeStanding.{waiting_number}
@@ -147,10 +144,6 @@ all_of_them = refl
 -- a task of the table sees its own call
 pub sees_its_call : (ws : List WaitingCall) (id : ℕ) → id ≤ 16 → get (waits_by_task ws) id ≡ waits_at ws id
 sees_its_call ws id le = ap (λ ps. get (map (waits_at ws) ps) id) all_of_them ∙ place_at (waits_at ws) 17 0 id (omega (arith, le)) ∙ ap (waits_at ws) (omega arith)
-
--- and there is no other task
-pub sees_no_call : (ws : List WaitingCall) (id : ℕ) → 17 ≤ id → get (waits_by_task ws) id ≡ None
-sees_no_call ws id le = get_or_past (waits_by_task ws) id None le
 
 none_at : (id : ℕ) (ws : List WaitingCall) → times waiting_number id ws ≡ 0 → take_first (is_of id) ws ≡ None
 none_at id [] none = refl

@@ -47,16 +47,6 @@ lowered (Some s) e = fewer s.count s.max e
     fewer : (n m : ℕ) → (leb n m && (leb 1 m && leb m 65535)) ≡ true → (leb (n - 1) m && (leb 1 m && leb m 65535)) ≡ true
     fewer n m e = grind (arith, nat_tests)
 
--- a task that takes a count keeps them
-pub ranges_taken : (reason : WaitReason) (semaphores : List (Option SemaphoreBlock)) → AreInRange semaphores → AreInRange (semaphores_after reason semaphores)
-ranges_taken (reasons.Semaphore s) semaphores ranges = ranges_set semaphores s.0 (one_less (get semaphores s.0)) ranges (lowered (get semaphores s.0) (ranges.each s.0))
-ranges_taken (reasons.Flag w) semaphores ranges = ranges
-ranges_taken (reasons.Send q item) semaphores ranges = ranges
-ranges_taken (reasons.Receive q) semaphores ranges = ranges
-ranges_taken reasons.Sleep semaphores ranges = ranges
-ranges_taken reasons.Delay semaphores ranges = ranges
-ranges_taken reasons.Outside semaphores ranges = ranges
-
 -- the declared semaphores keep them
 ranges_filled : (ds : List SemDecl) (table : List (Option SemaphoreBlock)) → list_all keeps_ranges ds ≡ true → AreInRange table → AreInRange (filled semaphore_id semaphore_declared ds table)
 ranges_filled [] table good ranges = ranges

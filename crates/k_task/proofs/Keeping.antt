@@ -305,26 +305,7 @@ module _ {d : PlainTasks} (kept : Kept d) where
       nothing true = refl
       nothing false = refl
 
-  -- the wait of a task is over, and it is suspended
-  pub kept_released_suspended : {waits : List (Option TaskWait)} (t : TaskId)
-      → is_suspended (get d.tasks t.0) ≡ true
-      → waits ≡ slice_set d.waits t.0 None
-      → Kept (record d { waits = waits })
-  kept_released_suspended t suspended w = rw w (kept_touched (record d { waits = slice_set d.waits t.0 None }) t.0
-      refl (length-set d.waits t.0 None) kept.nobody (λ id other. refl) (λ id other. get_or-set_other d.waits t.0 id None None other) (λ id other. refl)
-      (let old = stands t.0 in record {
-        listed = rw suspended (old.listed ∙ ap one_if (suspended_off t.0 suspended) ∙ sym (ap one_if (nothing (is_active (get d.tasks t.0)))));
-        dormant = rw (emptied_at d.waits t.0) (λ f. refl);
-        activations = old.activations;
-        wakeups = old.wakeups;
-        suspensions = old.suspensions;
-      }))
-    where
-      nothing : (a : Bool) → (a && false) ≡ false
-      nothing true = refl
-      nothing false = refl
-
-  -- and it isn't: it is the last in order
+  -- the wait of a task is over that isn't suspended: it is the last in order
   pub kept_released : {waits : List (Option TaskWait)} {runnable : List TaskId} (t : TaskId)
       → is_some (get d.waits t.0) ≡ true
       → is_suspended (get d.tasks t.0) ≡ false

@@ -63,11 +63,6 @@ waits_good false s l w g le = absurd (omega (arith, g.0))
 waits_good true false l w g le = omega (arith, g)
 waits_good true true l w g le = absurd (omega (arith, g.0))
 
-waked_good : (a s : Bool) (l v w : ℕ) → Good a s l v → v ≡ w + 1 → Good a s (l + one_if (not s)) w
-waked_good false s l v w g e = absurd (omega (arith, g.1, e))
-waked_good true false l v w g e = omega (arith, g, e)
-waked_good true true l v w g e = (omega (arith, g.0), omega (arith, g.1, e))
-
 halted_good : (a s : Bool) (l w : ℕ) → Good a s l w → Good a true 0 w
 halted_good false s l w g = (refl, g.1)
 halted_good true false l w g = (refl, omega (arith, g))
