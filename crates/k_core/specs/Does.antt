@@ -1,12 +1,12 @@
--- What a call of the running kernel does.
+-- What a call of the kernel does, in its parts.
 use Rattle.std.specs.Prelude.{◌≡◌}
-use Rattle.spec_kernel.specs.PlainKernel.{PlainKernel}
-use Rattle.spec_kernel.specs.Settle.{Outcome}
+use Rattle.spec_kernel.specs.Parts.{PlainParts}
+use Rattle.k_core.specs.PartsRows.{PartsOutcome}
 use Rattle.k_core.specs.declared.done.Done.{Done}
 
--- the kernel afterwards and what the call tells are those of the outcome
-pub record Does (new : PlainKernel) (done : Done) (o : Outcome) : Type 0 where
-  pub kernel : new ≡ o.kernel
+-- the parts afterwards and what the call tells are those of the outcome
+pub record Does (new : PlainParts) (done : Done) (o : PartsOutcome) : Type 0 where
+  pub parts : new ≡ o.parts
   pub answer : done.ans ≡ o.answer
   pub ends : done.ends.items ≡ o.ends
   pub gone : done.gone ≡ o.gone

@@ -1,4 +1,8 @@
-pub mod ByTime
+pub mod PartsRows
+pub mod PartsSettle
+pub mod Found
 pub mod Does
-pub mod Kept
-pub mod TimeOuts
+pub mod Callers
+pub mod PartsTime
+pub mod Tied
+pub mod Kernel

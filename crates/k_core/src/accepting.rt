@@ -1,63 +1,62 @@
-ghost use Rattle.std.specs.Prelude.{◌≡◌, ◌≢◌, ◌<◌, ◌^◌, false};
-ghost use Rattle.spec_kernel.specs.Tasks.{running};
-ghost use Rattle.spec_kernel.specs.Settle.{AtRest, is_met};
-ghost use Rattle.spec_kernel.specs.Rows.{accepted, waiting};
+//! Calls that aren't met at once.
+
+ghost use Rattle.std.specs.Prelude.{◌≡◌, ◌<◌, ◌^◌, ◌≤◌, false, length};
+ghost use Rattle.it_types.specs.Callers.{is_poll};
+ghost use Rattle.spec_kernel.specs.Rows.{deadline_of};
+ghost use Rattle.k_core.specs.PartsRows.{accepted, with_wait};
 ghost use Rattle.k_core.specs.Does.{Does};
 
-use crate::deadlines::deadline_of;
-use crate::waits::take_out;
-use crate::{Done, Kernel};
-use it_types::{CallNo, E_TMOUT, TaskId, Tmo};
-use spec_kernel::{Wait, WaitFor};
+use crate::Done;
+use crate::done::answered;
+use crate::parts::Parts;
+use it_types::{CallNo, E_TMOUT, Small, TaskId, Tmo};
+use spec_kernel::{KAns, WaitReason, WaitingCall};
 
-impl Kernel {
-    /// A call of the running task that isn't met at once: a poll is over, any other waits.
-    pub(crate) fn accept(&mut self, task: TaskId, target: WaitFor, tmo: Tmo, no: CallNo) -> Done
-        requires runs { running self.old.tasks self.old.runnable ≡ task }
-        requires some { task.0 ≢ 0 }
-        requires unmet { is_met self.old.semaphores target ≡ false }
-        requires counts { self.old.now < 2 ^ 60 }
-        ensures { Does self.new result (accepted self.old task target tmo no) }
-    {
-        if tmo.is_poll() {
-            Done::now(E_TMOUT)
-        } else {
-            self.wait(task, target, tmo, no)
-        }
+/// The tick at which a call with this time-out ends, accepted at the tick `now`.
+fn deadline_of(now: u64, tmo: Tmo) -> Option<u64>
+    requires { now < 2 ^ 60 }
+    ensures { result ≡ deadline_of now tmo }
+{
+    match tmo {
+        Tmo::Ms(ticks) => Some(now + ticks as u64 + 1),
+        Tmo::Pol | Tmo::Nblk | Tmo::Fevr => None,
     }
+}
 
-    /// The running task waits under this number.
-    pub(crate) fn wait(&mut self, task: TaskId, target: WaitFor, tmo: Tmo, no: CallNo) -> Done
-        requires runs { running self.old.tasks self.old.runnable ≡ task }
-        requires some { task.0 ≢ 0 }
-        requires unmet { is_met self.old.semaphores target ≡ false }
-        requires counts { self.old.now < 2 ^ 60 }
-        ensures does { Does self.new result (waiting self.old task target tmo no) }
-        ensures rest { AtRest self.old }
+impl Parts {
+    /// The task waits under this number, the last in rank.
+    pub(crate) fn begin_wait(&mut self, task: TaskId, reason: WaitReason, tmo: Tmo, no: CallNo)
+        requires room { length self.old.waits < 16 }
+        requires now { self.old.clock.now < 2 ^ 60 }
+        requires ranks { self.old.tasks.next_rank < 2 ^ 60 }
+        ensures { self.new ≡ with_wait self.old task reason tmo no }
     {
-        self.begin_wait(task, target, tmo, no);
-        Done::pending()
-    }
-
-    /// The running task is no longer runnable and the last of those that wait; no call waited with a higher number.
-    pub(crate) fn begin_wait(&mut self, task: TaskId, target: WaitFor, tmo: Tmo, no: CallNo)
-        requires runs { running self.old.tasks self.old.runnable ≡ task }
-        requires some { task.0 ≢ 0 }
-        requires unmet { is_met self.old.semaphores target ≡ false }
-        requires counts { self.old.now < 2 ^ 60 }
-        ensures kernel { self.new ≡ (waiting self.old task target tmo no).kernel }
-
-        // No call that waited before was ready.
-        ensures rest { AtRest self.old }
-    {
-        let deadline = deadline_of(self.ticks, tmo);
-        self.last_call = no;
-        take_out(&mut self.runnable, task);
-        self.waits.push(Wait {
+        let deadline = deadline_of(self.clock.now(), tmo);
+        self.tasks.wait(task);
+        let rank = self.tasks.rank();
+        self.waits.push(WaitingCall {
             call: no,
             task,
-            target,
+            reason,
             deadline,
+            rank,
         });
+        self.last_call = no;
+    }
+
+    /// A poll is over, any other call waits.
+    pub(crate) fn accept(&mut self, task: TaskId, reason: WaitReason, tmo: Tmo, no: CallNo) -> Done
+        requires room { is_poll tmo ≡ false → length self.old.waits < 16 }
+        requires now { self.old.clock.now < 2 ^ 60 }
+        requires ranks { self.old.tasks.next_rank < 2 ^ 60 }
+        ensures does { Does self.new result (accepted self.old task reason tmo no) }
+        ensures few { length result.ends.items ≤ 1 }
+    {
+        if tmo.is_poll() {
+            answered(KAns::Now(E_TMOUT, Small::new()))
+        } else {
+            self.begin_wait(task, reason, tmo, no);
+            answered(KAns::Pends)
+        }
     }
 }

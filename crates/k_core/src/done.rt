@@ -1,10 +1,16 @@
-use crate::{KAns, KEnd};
-use arrayvec::ArrayVec;
-use it_types::{E_OK, Er, Small, TaskId};
-use spec_kernel::Wait;
+//! What a call of the kernel comes to.
 
-/// What a kernel call does beside the kernel's own state: its answer, the ends of calls in their order, and the tasks that
-/// ended and began, 0 for none.
+ghost use Rattle.std.specs.Prelude.{◌≡◌, []};
+ghost use Rattle.it_types.specs.Callers.{nobody};
+ghost use Rattle.spec_kernel.specs.Settle.{ending, is_outside};
+ghost use Rattle.spec_kernel.specs.Rows.{answer_of, or_nobody, word_bytes};
+
+use arrayvec::ArrayVec;
+use it_types::{Ctx, Er, Small, TaskId};
+use spec_kernel::{Did, KAns, KEnd, WaitReason, WaitingCall};
+
+/// What a kernel call does beside the kernel's own state: its answer, the ends of calls in their order, and the tasks that ended
+/// and began, 0 for none.
 #[derive(Debug, Drop)]
 pub struct Done {
     pub ans: KAns,
@@ -13,66 +19,74 @@ pub struct Done {
     pub begun: TaskId,
 }
 
-impl Done {
-    ghost use Rattle.std.specs.Prelude.{◌≡◌, [], ◌∷◌};
-    ghost use Rattle.it_types.specs.declared.er.TheConstants.{E_OK as ok};
-    ghost use Rattle.it_types.specs.Callers.{nobody};
-    ghost use Rattle.spec_kernel.specs.PlainKernel.{PlainKernel};
-    ghost use Rattle.spec_kernel.specs.Settle.{end_of};
-    ghost use Rattle.spec_kernel.specs.Rows.{answered};
-    ghost use Rattle.spec_kernel.specs.declared.outcome.KAns.{KAns};
-    ghost use Rattle.k_core.specs.Does.{Does};
-
-    fn of(ans: KAns) -> Done
-        ensures answer { result.ans ≡ ans }
-        ensures ends { result.ends.items ≡ [] }
-        ensures gone { result.gone ≡ nobody }
-        ensures begun { result.begun ≡ nobody }
-    {
-        Done {
-            ans,
-            ends: ArrayVec::new(),
-            gone: TaskId(0),
-            begun: TaskId(0),
-        }
+/// The answer alone.
+pub(crate) fn answered(ans: KAns) -> Done
+    ensures answer { result.ans ≡ ans }
+    ensures ends { result.ends.items ≡ [] }
+    ensures gone { result.gone ≡ nobody }
+    ensures begun { result.begun ≡ nobody }
+{
+    Done {
+        ans,
+        ends: ArrayVec::new(),
+        gone: TaskId(0),
+        begun: TaskId(0),
     }
+}
 
-    /// The call is answered at once with this code.
-    pub(crate) fn now(code: Er) -> Done
-        ensures { (k : PlainKernel) → Does k result (answered k code) }
-    {
-        Done::of(KAns::Now(code, Small::new()))
+pub(crate) fn or_nobody(task: Option<TaskId>) -> TaskId
+    ensures { result ≡ or_nobody task }
+{
+    match task {
+        Some(task) => task,
+        None => TaskId(0),
     }
+}
 
-    /// The call waits.
-    pub(crate) fn pending() -> Done
-        ensures { (k : PlainKernel) → Does k result (record { kernel = k; answer = KAns.Pends; ends = []; gone = nobody; begun = nobody }) }
-    {
-        Done::of(KAns::Pends)
+/// The bytes of a number, if there is one.
+fn word_bytes(value: Option<u32>) -> Small
+    ensures { result ≡ word_bytes value }
+{
+    match value {
+        Some(value) => Small::of_word(value),
+        None => Small::new(),
     }
+}
 
-    /// The call is answered with `E_OK`, and the call that waited ends with it too.
-    pub(crate) fn ending(wait: Wait) -> Done
-        ensures { (k : PlainKernel) → Does k result (record { kernel = k; answer = KAns.Now ok []; ends = end_of wait ∷ []; gone = nobody; begun = nobody }) }
-    {
-        let mut done = Done::of(KAns::Now(E_OK, Small::new()));
-        done.ends.push(KEnd {
-            call: wait.call,
-            task: wait.task,
-            code: E_OK,
-            bytes: Small::new(),
-            outside: false,
-        });
-        done
+/// The answer to a call on tasks: a caller that has ended is answered nothing.
+pub(crate) fn answer_of(ctx: Ctx, did: Did) -> KAns
+    ensures { result ≡ answer_of ctx did }
+{
+    match did.gone {
+        Some(task) if task.0 == ctx.caller().0 => KAns::Quiet,
+        _ => KAns::Now(did.code, word_bytes(did.value)),
     }
+}
 
-    /// The task has ended, and nothing is answered.
-    pub(crate) fn exit_of(task: TaskId) -> Done
-        ensures { (k : PlainKernel) → Does k result (record { kernel = k; answer = KAns.Quiet; ends = []; gone = task; begun = nobody }) }
-    {
-        Done {
-            gone: task,
-            ..Done::of(KAns::Quiet)
-        }
+/// Whether the call is one of the network part.
+pub(crate) fn is_outside(reason: WaitReason) -> bool
+    ensures { result ≡ is_outside reason }
+{
+    match reason {
+        WaitReason::Outside => true,
+        WaitReason::Semaphore(_)
+        | WaitReason::Flag(_)
+        | WaitReason::Send(_, _)
+        | WaitReason::Receive(_)
+        | WaitReason::Sleep
+        | WaitReason::Delay => false,
+    }
+}
+
+/// The end of a call with a code and bytes.
+pub(crate) fn ending(wait: WaitingCall, code: Er, bytes: Small) -> KEnd
+    ensures { result ≡ ending wait code bytes }
+{
+    KEnd {
+        call: wait.call,
+        task: wait.task,
+        code,
+        bytes,
+        outside: is_outside(wait.reason),
     }
 }

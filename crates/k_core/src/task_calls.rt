@@ -1,38 +1,54 @@
-ghost use Rattle.std.specs.Prelude.{◌≡◌, ◌≢◌, ◌<◌, ◌^◌, None};
-ghost use Rattle.it_types.specs.declared.context.Ctx.{Ctx as ACtx};
-ghost use Rattle.it_types.specs.declared.id.TaskId.{TaskId as ATaskId};
-ghost use Rattle.it_types.specs.declared.id.CallNo.{CallNo as ACallNo};
-ghost use Rattle.it_types.specs.declared.kernel_request.KReq.{KReq};
-ghost use Rattle.spec_lists.specs.Refusal.{first_refusal};
-ghost use Rattle.spec_kernel.specs.Tasks.{running};
-ghost use Rattle.spec_kernel.specs.Rows.{call, refusals};
+//! What is left to do after the tasks have done their part of a call.
+
+ghost use Rattle.std.specs.Prelude.{◌≡◌, ◌<◌, ◌^◌, ◌≤◌, false, length};
+ghost use Rattle.it_types.specs.Callers.{is_poll};
+ghost use Rattle.k_core.specs.PartsRows.{done_at_once, waits_or_done};
 ghost use Rattle.k_core.specs.Does.{Does};
 
-use crate::tables::make_dormant;
-use crate::waits::take_out;
-use crate::{Done, Kernel};
-use it_types::{CallNo, Ctx, Tmo};
-use spec_kernel::WaitFor;
+use crate::Done;
+use crate::done::{answer_of, ending, or_nobody};
+use crate::parts::Parts;
+use arrayvec::ArrayVec;
+use it_types::{CallNo, Ctx, E_RLWAI, Small, Tmo};
+use spec_kernel::{Did, WaitReason};
 
-impl Kernel {
-    /// The calling task ends (µITRON4.0 section 4.1, `ext_tsk`).
-    pub(crate) fn ext_tsk(&mut self, ctx: Ctx) -> Done
-        requires { first_refusal (refusals self.old ctx KReq.ExtTsk) ≡ None }
-        ensures { (no : ACallNo) → Does self.new result (call self.old ctx KReq.ExtTsk no) }
+impl Parts {
+    /// A call that is met at once: the call that it has ended ends with `E_RLWAI`.
+    pub(crate) fn finish(&mut self, ctx: Ctx, did: Did) -> Done
+        ensures does { Does self.new result (done_at_once self.old ctx did) }
+        ensures few { length result.ends.items ≤ 1 }
     {
-        let task = ctx.caller();
-        make_dormant(&mut self.tasks, task);
-        take_out(&mut self.runnable, task);
-        Done::exit_of(task)
+        let mut ends = ArrayVec::new();
+        if let Some(wait) = self.end_freed(did.freed) {
+            ends.push(ending(wait, E_RLWAI, Small::new()));
+        }
+        Done {
+            ans: answer_of(ctx, did),
+            ends,
+            gone: or_nobody(did.gone),
+            begun: or_nobody(did.begun),
+        }
     }
 
-    /// The calling task waits for so many ticks (µITRON4.0 section 4.2, `dly_tsk`).
-    pub(crate) fn dly_tsk(&mut self, ctx: Ctx, ticks: u32, no: CallNo) -> Done
-        requires allowed { first_refusal (refusals self.old ctx (KReq.DlyTsk ticks)) ≡ None }
-        requires caller { (t : ATaskId) → ctx ≡ ACtx.Task t → (t.0 ≢ 0) × (running self.old.tasks self.old.runnable ≡ t) }
-        requires counts { self.old.now < 2 ^ 60 }
-        ensures { Does self.new result (call self.old ctx (KReq.DlyTsk ticks) no) }
+    /// A call that may have to wait.
+    pub(crate) fn wait_or_finish(
+        &mut self,
+        ctx: Ctx,
+        did: Did,
+        reason: WaitReason,
+        tmo: Tmo,
+        no: CallNo,
+    ) -> Done
+        requires room { is_poll tmo ≡ false → length self.old.waits < 16 }
+        requires now { self.old.clock.now < 2 ^ 60 }
+        requires ranks { self.old.tasks.next_rank < 2 ^ 60 }
+        ensures does { Does self.new result (waits_or_done self.old ctx did reason tmo no) }
+        ensures few { length result.ends.items ≤ 1 }
     {
-        self.wait(ctx.caller(), WaitFor::Delay, Tmo::Ms(ticks), no)
+        if did.wait {
+            self.accept(ctx.caller(), reason, tmo, no)
+        } else {
+            self.finish(ctx, did)
+        }
     }
 }

@@ -5,7 +5,7 @@ use Rattle.std.proofs.lemmas.Bool.Decides.{nat_tests}
 use Rattle.std.proofs.lemmas.List.{drop_more}
 use Rattle.it_types.specs.Table.{is_no_id, put_into}
 use Rattle.spec_lists.specs.Tables.{get, filled}
-use Rattle.spec_kernel.specs.Opening.{are_new_ids}
+use Rattle.spec_kernel.specs.Ids.{are_new_ids}
 
 right_id : (id : ℕ) → leb 1 id ≡ true → leb id 16 ≡ true → is_no_id 16 id ≡ false
 right_id id low high = grind (arith, nat_tests)

@@ -16,7 +16,7 @@ use Rattle.spec_kernel.specs.declared.reason.WaitReason.TheVariants as reasons
 use Rattle.spec_kernel.specs.declared.waiter.Waiter.{Waiter}
 use Rattle.spec_kernel.specs.Waiters.{is_same_queue, is_in, next_waiter}
 use Rattle.spec_kernel.specs.SemaphoreBlocks.{count_of, has_count, is_full, one_more, one_less, semaphore_id, semaphore_declared, keeps_ranges}
-use Rattle.spec_kernel.specs.PlainKernel.{greatest_id}
+use Rattle.spec_kernel.specs.Ids.{greatest_id}
 use Rattle.spec_kernel.specs.PlainSemaphores.{PlainSemaphores, is_met, next_ready, freed}
 use Rattle.spec_kernel.specs.SemaphoreRows.{sig_sem_refusals}
 use Rattle.spec_kernel.specs.ObjectRows.{told}

@@ -1,7 +1,7 @@
 ghost use Rattle.std.specs.Prelude.{◌≡◌, IfOk, false, option_copied, true};
 ghost use Rattle.spec_lists.specs.Tables.{change, empty_table, filled, get};
-ghost use Rattle.spec_kernel.specs.PlainKernel.{greatest_id};
-ghost use Rattle.spec_kernel.specs.Opening.{are_new_ids};
+ghost use Rattle.spec_kernel.specs.Ids.{greatest_id};
+ghost use Rattle.spec_kernel.specs.Ids.{are_new_ids};
 ghost use Rattle.spec_kernel.specs.DataQueues.{hands_over, has_item, has_room, item_taken, oldest_bytes, queue_declared, queue_id, sends_by_priority, with_forced_item, with_item};
 
 use crate::queue::Queue;

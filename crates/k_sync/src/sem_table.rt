@@ -3,7 +3,7 @@
 ghost use Rattle.std.specs.Prelude.{◌≡◌, ◌<◌, IfOk, is_none};
 ghost use Rattle.spec_lists.specs.Tables.{get, change, empty_table, filled};
 ghost use Rattle.spec_kernel.specs.SemaphoreBlocks.{count_of, has_count, is_full, one_more, semaphore_id, semaphore_declared};
-ghost use Rattle.spec_kernel.specs.PlainKernel.{greatest_id};
+ghost use Rattle.spec_kernel.specs.Ids.{greatest_id};
 ghost use Rattle.spec_kernel.specs.PlainSemaphores.{AreDeclarable, is_met, is_by_priority, bytes_of};
 ghost use Rattle.spec_kernel.specs.Waiting.{semaphores_after};
 

@@ -1,7 +1,7 @@
 ghost use Rattle.std.specs.Prelude.{◌≡◌, ◌≤◌, IfOk, None, true};
 ghost use Rattle.spec_lists.specs.Tables.{empty_table, get};
-ghost use Rattle.spec_kernel.specs.PlainKernel.{greatest_id};
-ghost use Rattle.spec_kernel.specs.Opening.{are_new_ids, task_id};
+ghost use Rattle.spec_kernel.specs.Ids.{greatest_id};
+ghost use Rattle.spec_kernel.specs.Ids.{are_new_ids, task_id};
 ghost use Rattle.spec_kernel.specs.TaskOpening.{block_at_start, declared, no_tasks, opened_tasks};
 
 use crate::Tasks;

@@ -1,189 +1,179 @@
--- What ranks and places have in common: each active task is runnable or waits, once, and the ranks rise along both lists.
-use Rattle.std.proofs.Common.{◌≡◌, ◌≢◌, ℕ, ◌+◌, ◌<◌, ◌≤◌, Bool, true, false, not, ◌&&◌, List, [], ◌∷◌, ◌++◌, Option, Some, None, refl, sym, ◌∙◌, ap, subst, inl, inr, arith}
-use Rattle.std.specs.Prelude.{◌==◌}
-use Rattle.std.proofs.lemmas.Bool.{cases_eq, eq-eqb, ne_eqb}
+-- How tasks and calls stand in the whole kernel: each act keeps it.
+use Rattle.std.proofs.Common.{◌≡◌, ◌≢◌, ℕ, ◌+◌, ◌<◌, ◌≤◌, Bool, true, false, ◌||◌, ltb, List, [], ◌∷◌, ◌++◌, length, Option, Some, None, refl, ap, sym, ◌∙◌, subst, inl, inr, arith}
+use Rattle.std.specs.Prelude.{◌==◌, nat_lt, if◌then◌else◌}
+use Rattle.std.proofs.lemmas.Bool.{cases_Bool, cases_lt}
+use Rattle.std.proofs.lemmas.List.{get_or_past}
 use Rattle.it_types.specs.declared.id.TaskId.{TaskId}
 use Rattle.it_types.specs.declared.id.CallNo.{CallNo}
+use Rattle.it_types.specs.declared.timeout.Tmo.{Tmo}
 use Rattle.spec_lists.specs.Tables.{get, change}
 use Rattle.spec_lists.specs.First.{take_first}
-use Rattle.spec_lists.proofs.Changes.{get-change_same, get-change_other}
-use Rattle.spec_kernel.specs.declared.task.Task.{Task}
-use Rattle.spec_kernel.specs.declared.wait.Wait.{Wait}
-use Rattle.spec_kernel.specs.declared.wait.WaitFor.{WaitFor}
-use Rattle.spec_kernel.specs.PlainKernel.{PlainKernel, greatest_id}
-use Rattle.spec_kernel.specs.Tasks.{is_active, dormant, without}
-use Rattle.laws_kernel.specs.Runnable.{one_if, times_listed, times_waiting, is_waiting, is_runnable, IsExact}
-use Rattle.laws_kernel.specs.Ranks.{Ranks, with_rank, task_draws, call_draws}
-use Rattle.laws_kernel.proofs.Counting.{one_at_most, listed_end, waiting_end, waiting_found, listed_without_same, listed_without_other, waiting_some, waiting_none}
-use Rattle.laws_kernel.proofs.Rising.{AllBelow, Rises, AgreeOn, below_end, rises_end, below_more, below_found, rises_found, below_filter, rises_filter, below_agree, rises_agree}
+use Rattle.spec_lists.specs.Counting.{one_if, times}
+use Rattle.spec_lists.proofs.Changes.{length-change}
+use Rattle.spec_lists.proofs.Counting.{one_if-same}
+use Rattle.spec_kernel.specs.declared.task_block.TaskBlock.{TaskBlock}
+use Rattle.spec_kernel.specs.declared.reason.WaitReason.{WaitReason}
+use Rattle.spec_kernel.specs.declared.reason.WaitingCall.{WaitingCall}
+use Rattle.spec_kernel.specs.TaskBlocks.{changed, priority_of, is_active, is_suspended, dormant, begun, with_suspensions, one_suspension_more}
+use Rattle.spec_kernel.specs.PlainTasks.{PlainTasks, most_urgent, first_of, running, is_waiting, with_task, leaving, without, last_in_order}
+use Rattle.spec_kernel.specs.TaskRows.{begun_anew, resumed}
+use Rattle.spec_kernel.specs.PlainKernel.{PlainKernel, is_of, tasks_of, with_tasks}
+use Rattle.spec_kernel.specs.Settle.{ended}
+use Rattle.spec_kernel.specs.Rows.{with_wait, waiting_call, moved}
+use Rattle.spec_kernel.specs.Standing.{task_number, waits_now, AreRisingTo, IsStanding}
+use Rattle.laws_kernel.proofs.Acting.{SameTasks, laid, Act, Blocks}
+use Rattle.laws_kernel.proofs.Acting.Act.{stays, wakes, lies_down, begins, suspends, resumes, goes_last, waits_last}
+use Rattle.laws_kernel.proofs.Acting.Blocks.{blocks}
+use Rattle.laws_kernel.proofs.Lists.{waiting_some, waiting_none, task_waits, no_task_waits, rising_end, rising_found, rising_others, nobody_changed}
+use Rattle.laws_kernel.proofs.Balanced.{AreGood, at_most_once, waiting_active, listed_active, listed_idle, listed_exactly, good_from, stays_good, waits_good_all, ends_good, ends_good_suspended, lies_good, begins_good, suspends_good, resumes_good, goes_last_good, waits_last_good}
 
-abbrev pub task_rank : Ranks → TaskId → ℕ
-task_rank r t = r.task t.0
+-- ---- from the balance and back
 
-abbrev pub call_rank : Ranks → Wait → ℕ
-call_rank r w = r.call w.call.0
+pub good_standing : (k : PlainKernel) → IsStanding k → AreGood k.tasks k.runnable k.waits
+good_standing k s id = record {
+  good = good_from (is_active (get k.tasks id)) (is_suspended (get k.tasks id)) (waits_now k id) _ _ (waiting_some id k.waits) (waiting_none id k.waits) (s.runnable id) (s.once id) (s.active id);
+}
 
-abbrev pub number_of : Wait → ℕ
-number_of w = w.call.0
+pub standing_from : (k : PlainKernel) → length k.tasks ≡ 17 → get k.tasks 0 ≡ None → AreGood k.tasks k.runnable k.waits → AreRisingTo k.next_rank k.waits → IsStanding k
+standing_from k places nobody b ranks = record {
+  places = places;
+  nobody = nobody;
+  runnable = λ id. listed_exactly (is_active (get k.tasks id)) (is_suspended (get k.tasks id)) (waits_now k id) _ _ (waiting_some id k.waits) (waiting_none id k.waits) (b id).good;
+  once = λ id. at_most_once _ _ _ _ (b id).good;
+  active = λ id le. waiting_active _ _ _ _ (b id).good le;
+  ranks = ranks;
+}
 
--- each active task stands once among the runnable ones or among the calls that wait, and a dormant one nowhere
-pub record IsBalanced (tasks : List (Option Task)) (runnable : List TaskId) (waits : List Wait) : Type 0 where
-  pub each : (id : ℕ) → times_listed id runnable + times_waiting id waits ≡ one_if (is_active (get tasks id))
-  pub ids : (id : ℕ) → is_active (get tasks id) ≡ true → (1 ≤ id) × (id ≤ greatest_id)
+module _ (k : PlainKernel) (s : IsStanding k) where
+  good : AreGood k.tasks k.runnable k.waits
+  good = good_standing k s
 
-pub record Stands (tasks : List (Option Task)) (runnable : List TaskId) (waits : List Wait) (last : ℕ) (r : Ranks) : Type 0 where
-  pub balanced : IsBalanced tasks runnable waits
-  pub tasks_rise : Rises (task_rank r) runnable
-  pub tasks_below : AllBelow (task_rank r) r.next runnable
-  pub calls_rise : Rises (call_rank r) waits
-  pub calls_below : AllBelow (call_rank r) r.next waits
-  pub numbers : AllBelow number_of (last + 1) waits
+  -- an active task has an id of the table
+  pub active_within : (id : ℕ) → is_active (get k.tasks id) ≡ true → id < 17
+  active_within id e = elim (cases_lt id 17) [
+    | inl lt ↦ lt
+    | inr le ↦ absurd (let none : false ≡ true = sym (ap is_active (get_or_past k.tasks id None (omega (arith, le, s.places)))) ∙ e in cc)
+  ]
 
-abbrev pub StandsFor : PlainKernel → Ranks → Type 0
-StandsFor k r = Stands k.tasks k.runnable k.waits k.last_call r
+  -- a task sees that it waits exactly where a call of its own does
+  pub sees_its_wait : (t : TaskId) → is_waiting (tasks_of k) t ≡ waits_now k t.0
+  sees_its_wait t = elim (cases_lt t.0 17) [
+    | inl lt ↦ task_waits k.waits t.0 lt
+    | inr le ↦ no_task_waits k.waits t.0 le ∙ sym (nobody_waits (waits_now k t.0) (λ w. let lt = active_within t.0 (s.active t.0 (waiting_some t.0 k.waits w)) in omega (arith, le, lt)))
+  ]
+    where
+      nobody_waits : (b : Bool) → (b ≡ true → ⊥) → b ≡ false
+      nobody_waits true h = absurd (h refl)
+      nobody_waits false h = refl
 
--- ---- the list of runnable tasks
+  -- a listed task is active, and no call of its own waits
+  pub listed_is_active : (t : TaskId) → 1 ≤ times task_number t.0 k.runnable → is_active (get k.tasks t.0) ≡ true
+  listed_is_active t listed = listed_active _ _ _ _ (good t.0).good listed
 
-exactly : (listed waiting : ℕ) (active is_there : Bool)
-    → listed + waiting ≡ one_if active
-    → (is_there ≡ true → 1 ≤ waiting)
-    → (is_there ≡ false → waiting ≡ 0)
-    → (listed ≡ one_if (active && not is_there)) × (waiting ≡ one_if is_there)
-exactly listed waiting true true sum some none = (omega (arith, some refl), omega (arith, some refl))
-exactly listed waiting true false sum some none = (omega (arith, none refl), none refl)
-exactly listed waiting false true sum some none = absurd (omega (arith, some refl))
-exactly listed waiting false false sum some none = (omega (arith, none refl), none refl)
+  pub listed_doesnt_wait : (t : TaskId) → 1 ≤ times task_number t.0 k.runnable → is_waiting (tasks_of k) t ≡ false
+  listed_doesnt_wait t listed = sees_its_wait t ∙ idle (waits_now k t.0) (λ e. let none = listed_idle _ _ _ _ (good t.0).good listed in omega (arith, none, waiting_some t.0 k.waits e))
+    where
+      idle : (b : Bool) → (b ≡ true → ⊥) → b ≡ false
+      idle true h = absurd (h refl)
+      idle false h = refl
 
-pub is_exact : (k : PlainKernel) → IsBalanced k.tasks k.runnable k.waits → IsExact k
-is_exact k h = record { runnable = λ id. (both id).0; waiting = λ id. (both id).1 }
+  -- ---- each act
+
+  stays_stands : (l : PlainKernel) → SameTasks k.tasks l.tasks → l.runnable ≡ k.runnable → l.waits ≡ k.waits → l.next_rank ≡ k.next_rank → IsStanding l
+  stays_stands l same r w n = standing_from l (same.places ∙ s.places) (same.nobody s.nobody)
+      (subst (λ rs. AreGood l.tasks rs l.waits) (sym r) (subst (AreGood l.tasks k.runnable) (sym w) (stays_good k.tasks k.runnable k.waits good l.tasks same)))
+      (subst (λ m. AreRisingTo m l.waits) (sym n) (subst (AreRisingTo k.next_rank) (sym w) s.ranks))
+
+  -- a call that was found ends
+  wakes_stands : (f : WaitingCall → Bool) (z : WaitingCall × List WaitingCall) → take_first f k.waits ≡ Some z → IsStanding (ended k z.0 z.1)
+  wakes_stands f z e = elim (cases_Bool (is_suspended (get k.tasks z.0.task.0))) [
+    | inl t ↦ rw t (standing_from (record k { waits = z.1 }) s.places s.nobody (ends_good_suspended k.tasks k.runnable k.waits good f z e t) (rising_found k.next_rank f k.waits z e s.ranks))
+    | inr t ↦ rw t (standing_from (record k { runnable = k.runnable ++ z.0.task ∷ []; waits = z.1 }) s.places s.nobody (ends_good k.tasks k.runnable k.waits good f z e t) (rising_found k.next_rank f k.waits z e s.ranks))
+  ]
+
+  lies_down_stands : (t : TaskId) → IsStanding (laid k t)
+  lies_down_stands t = standing_from (laid k t) (length-change k.tasks t.0 (changed dormant) ∙ s.places) (nobody_changed k.tasks t.0 dormant s.nobody)
+      (lies_good k.tasks k.runnable k.waits good t) (rising_others k.next_rank (is_of t.0) k.waits (take_first (is_of t.0) k.waits) refl s.ranks)
+
+  begins_stands : (t : TaskId) (x : TaskBlock) → get k.tasks t.0 ≡ Some x → x.active ≡ false → IsStanding (with_tasks k (begun_anew (tasks_of k) t))
+  begins_stands t x e inactive = standing_from (with_tasks k (begun_anew (tasks_of k) t)) (length-change k.tasks t.0 (changed begun) ∙ s.places) (nobody_changed k.tasks t.0 begun s.nobody)
+      (begins_good k.tasks k.runnable k.waits good t x e inactive) s.ranks
+
+  suspends_stands : (t : TaskId) → IsStanding (with_tasks k (leaving (with_task (tasks_of k) t one_suspension_more) t))
+  suspends_stands t = standing_from (with_tasks k (leaving (with_task (tasks_of k) t one_suspension_more) t)) (length-change k.tasks t.0 (changed one_suspension_more) ∙ s.places) (nobody_changed k.tasks t.0 one_suspension_more s.nobody)
+      (suspends_good k.tasks k.runnable k.waits good t) s.ranks
+
+  resumes_stands : (t : TaskId) (left : ℕ) → is_active (get k.tasks t.0) ≡ true → is_suspended (get k.tasks t.0) ≡ true → IsStanding (with_tasks k (resumed (tasks_of k) t left))
+  resumes_stands t left active suspended = of (ltb 0 left || is_waiting (tasks_of k) t) refl
+    where
+      all : (rs : List TaskId) → rs ≡ (if ltb 0 left || is_waiting (tasks_of k) t then k.runnable else k.runnable ++ t ∷ []) → IsStanding (record k { tasks = change k.tasks t.0 (changed (with_suspensions left)); runnable = rs })
+      all rs is = standing_from (record k { tasks = change k.tasks t.0 (changed (with_suspensions left)); runnable = rs })
+          (length-change k.tasks t.0 (changed (with_suspensions left)) ∙ s.places) (nobody_changed k.tasks t.0 (with_suspensions left) s.nobody)
+          (resumes_good k.tasks k.runnable k.waits good t left (is_waiting (tasks_of k) t) rs active suspended
+          (λ e. waiting_some t.0 k.waits (sym (sees_its_wait t) ∙ e)) (λ e. waiting_none t.0 k.waits (sym (sees_its_wait t) ∙ e)) is) s.ranks
+
+      of : (c : Bool) → (ltb 0 left || is_waiting (tasks_of k) t) ≡ c → IsStanding (with_tasks k (resumed (tasks_of k) t left))
+      of true e = rw e (all k.runnable (rw e refl))
+      of false e = rw e (all (k.runnable ++ t ∷ []) (rw e refl))
+
+  goes_last_stands : (f : TaskId → Bool) → IsStanding (with_tasks k (last_in_order f (tasks_of k)))
+  goes_last_stands f = standing_from (with_tasks k (last_in_order f (tasks_of k))) s.places s.nobody (goes_last_good k.tasks k.runnable k.waits good f (take_first f k.runnable) refl) s.ranks
+
+  waits_last_stands : (f : WaitingCall → Bool) (o : Option (WaitingCall × List WaitingCall)) → take_first f k.waits ≡ o → IsStanding (moved k o)
+  waits_last_stands f None e = s
+  waits_last_stands f (Some z) e = standing_from (moved k (Some z)) s.places s.nobody (waits_last_good k.tasks k.runnable k.waits good f z k.next_rank e)
+      (rising_end k.next_rank z.1 (record z.0 { rank = k.next_rank }) refl (rising_found k.next_rank f k.waits z e s.ranks))
+
+  -- a runnable task waits
+  blocks_stands : (t : TaskId) (reason : WaitReason) (tmo : Tmo) (number : CallNo) → 1 ≤ times task_number t.0 k.runnable → IsStanding (with_wait k t reason tmo number)
+  blocks_stands t reason tmo number listed =
+      let w : WaitingCall = waiting_call k t reason tmo number in
+      rw (listed_is_active t listed, listed_doesnt_wait t listed) (standing_from (record k { last_call = number.0; runnable = without t k.runnable; waits = k.waits ++ w ∷ []; next_rank = k.next_rank + 1 })
+      s.places s.nobody (waits_good_all k.tasks k.runnable k.waits good w listed) (rising_end k.next_rank k.waits w refl s.ranks))
+
+-- ---- all acts
+
+pub act_stands : (k l : PlainKernel) → Act k l → IsStanding k → IsStanding l
+act_stands k l (stays same r w n last now) s = stays_stands k s l same r w n
+act_stands k l (wakes f z e is) s = subst IsStanding (sym is) (wakes_stands k s f z e)
+act_stands k l (lies_down t is) s = subst IsStanding (sym is) (lies_down_stands k s t)
+act_stands k l (begins t x e inactive is) s = subst IsStanding (sym is) (begins_stands k s t x e inactive)
+act_stands k l (suspends t is) s = subst IsStanding (sym is) (suspends_stands k s t)
+act_stands k l (resumes t left active suspended is) s = subst IsStanding (sym is) (resumes_stands k s t left active suspended)
+act_stands k l (goes_last f is) s = subst IsStanding (sym is) (goes_last_stands k s f)
+act_stands k l (waits_last f is) s = subst IsStanding (sym is) (waits_last_stands k s f (take_first f k.waits) refl)
+
+pub block_stands : (number : CallNo) (k l : PlainKernel) → Blocks number k l → IsStanding k → IsStanding l
+block_stands number k l (blocks t reason tmo listed is) s = subst IsStanding (sym is) (blocks_stands k s t reason tmo number listed)
+
+-- ---- what code cites
+
+-- a call that was found ends
+pub ended_stands : (k : PlainKernel) (f : WaitingCall → Bool) (w : WaitingCall) (others : List WaitingCall) → take_first f k.waits ≡ Some (w, others) → IsStanding k → IsStanding (ended k w others)
+ended_stands k f w others e s = wakes_stands k s f (w, others) e
+
+-- the running task is one that is listed
+pub running_listed : (d : PlainTasks) (t : TaskId) → t.0 ≢ 0 → running d ≡ t → 1 ≤ times task_number t.0 d.runnable
+running_listed d t some e = subst (λ (u : TaskId). 1 ≤ times task_number u.0 d.runnable) e (of d.runnable (λ none. some (sym (ap task_number e) ∙ none)))
   where
-    both : (id : ℕ) → (times_listed id k.runnable ≡ one_if (is_runnable k id)) × (times_waiting id k.waits ≡ one_if (is_waiting id k.waits))
-    both id = exactly (times_listed id k.runnable) (times_waiting id k.waits) (is_active (get k.tasks id)) (is_waiting id k.waits) (h.each id) (waiting_some id k.waits) (waiting_none id k.waits)
+    step : (tasks : List (Option TaskBlock)) (best t : TaskId) (ts : List TaskId) (c : Bool)
+        → ((b : TaskId) → 1 ≤ one_if (b.0 == (most_urgent tasks b ts).0) + times task_number (most_urgent tasks b ts).0 ts)
+        → 1 ≤ one_if (best.0 == (most_urgent tasks (if c then t else best) ts).0) + times task_number (most_urgent tasks (if c then t else best) ts).0 (t ∷ ts)
+    step tasks best t ts true h = omega (arith, h t)
+    step tasks best t ts false h = omega (arith, h best)
 
--- ---- draws
+    among : (tasks : List (Option TaskBlock)) (best : TaskId) (ts : List TaskId) → 1 ≤ one_if (best.0 == (most_urgent tasks best ts).0) + times task_number (most_urgent tasks best ts).0 ts
+    among tasks best [] = omega (arith, one_if-same best.0 best.0 refl)
+    among tasks best (t ∷ ts) = step tasks best t ts (nat_lt (priority_of (get tasks t.0)) (priority_of (get tasks best.0))) (λ b. among tasks b ts)
 
-pub draws_next : (at n : ℕ) (ranks : ℕ → ℕ) → with_rank at n ranks at ≡ n
-draws_next at n ranks = rw (eq-eqb at at refl) refl
+    of : (ts : List TaskId) → ((first_of d.tasks ts).0 ≡ 0 → ⊥) → 1 ≤ times task_number (first_of d.tasks ts).0 ts
+    of [] h = absurd (h refl)
+    of (t ∷ ts) h = among d.tasks t ts
 
-keeps_rank : (at n id : ℕ) (ranks : ℕ → ℕ) → id ≢ at → ranks id ≡ with_rank at n ranks id
-keeps_rank at n id ranks ne = rw (ne_eqb id at ne) refl
-
-pub agree_unlisted : (t : TaskId) (r : Ranks) (ts : List TaskId) → times_listed t.0 ts ≡ 0 → AgreeOn (task_rank r) (task_rank (task_draws t r)) ts
-agree_unlisted t r [] e = tt
-agree_unlisted t r (u ∷ us) e = elim (cases_eq u.0 t.0) [
-  | inl same ↦ absurd (let one = eq-eqb u.0 t.0 same in let f : 1 + times_listed t.0 us ≡ 0 = rw one at e in omega (arith, f))
-  | inr other ↦ (keeps_rank t.0 r.next u.0 r.task other, agree_unlisted t r us (omega (arith, e)))
-]
-
-agree_lower : (number : CallNo) (r : Ranks) (n : ℕ) (ws : List Wait) → AllBelow number_of n ws → n ≤ number.0 → AgreeOn (call_rank r) (call_rank (call_draws number r)) ws
-agree_lower number r n [] h le = tt
-agree_lower number r n (w ∷ ws) h le = (keeps_rank number.0 r.next w.call.0 r.call (λ same. omega (arith, h.0, same)), agree_lower number r n ws h.1 le)
-
--- ---- the end of a call: its task becomes runnable
-
-module _ {tasks : List (Option Task)} {runnable : List TaskId} {waits : List Wait} {last : ℕ} {r : Ranks} (h : Stands tasks runnable waits last r) where
-  unlisted : (f : Wait → Bool) (z : Wait × List Wait) → take_first f waits ≡ Some z → times_listed z.0.task.0 runnable ≡ 0
-  unlisted f z e =
-      let one : one_if (z.0.task.0 == z.0.task.0) ≡ 1 = ap one_if (eq-eqb z.0.task.0 z.0.task.0 refl) in
-      omega (arith, h.balanced.each z.0.task.0, waiting_found z.0.task.0 f waits z e, one_at_most (is_active (get tasks z.0.task.0)), one)
-
-  pub freed_stands : (f : Wait → Bool) (z : Wait × List Wait) → take_first f waits ≡ Some z → Stands tasks (runnable ++ z.0.task ∷ []) z.1 last (task_draws z.0.task r)
-  freed_stands f z e =
-      let t : TaskId = z.0.task in
-      let s : Ranks = task_draws t r in
-      let agree = agree_unlisted t r runnable (unlisted f z e) in
-      let new : task_rank s t ≡ r.next = draws_next t.0 r.next r.task in
-      let low = below_agree (task_rank r) (task_rank s) r.next runnable agree h.tasks_below in record {
-        balanced = record {
-          each = λ id. omega (arith, listed_end id runnable t, waiting_found id f waits z e, h.balanced.each id);
-          ids = h.balanced.ids;
-        };
-        tasks_rise = rises_end (task_rank s) runnable t (rises_agree (task_rank r) (task_rank s) runnable agree h.tasks_rise) (subst (λ n. AllBelow (task_rank s) n runnable) (sym new) low);
-        tasks_below = below_end (task_rank s) s.next runnable t (below_more (task_rank s) r.next s.next runnable (omega arith) low) (omega (arith, new));
-        calls_rise = rises_found (call_rank r) f waits z e h.calls_rise;
-        calls_below = below_more (call_rank r) r.next s.next z.1 (omega arith) (below_found (call_rank r) r.next f waits z e h.calls_below);
-        numbers = below_found number_of (last + 1) f waits z e h.numbers;
-      }
-
-  -- ---- a call of a runnable task that waits
-
-  pub waiting_stands : (t : TaskId) (number : CallNo) (target : WaitFor) (deadline : Option ℕ)
-      → 1 ≤ times_listed t.0 runnable
-      → last < number.0
-      → Stands tasks (without t runnable) (waits ++ record { call = number; task = t; target = target; deadline = deadline } ∷ []) number.0 (call_draws number r)
-  waiting_stands t number target deadline listed lt =
-      let w : Wait = record { call = number; task = t; target = target; deadline = deadline } in
-      let s : Ranks = call_draws number r in
-      let agree = agree_lower number r (last + 1) waits h.numbers (omega arith) in
-      let new : call_rank s w ≡ r.next = draws_next number.0 r.next r.call in
-      let low = below_agree (call_rank r) (call_rank s) r.next waits agree h.calls_below in record {
-        balanced = record { each = moved t w refl listed; ids = h.balanced.ids };
-        tasks_rise = rises_filter (task_rank r) _ runnable h.tasks_rise;
-        tasks_below = below_more (task_rank r) r.next s.next (without t runnable) (omega arith) (below_filter (task_rank r) r.next _ runnable h.tasks_below);
-        calls_rise = rises_end (call_rank s) waits w (rises_agree (call_rank r) (call_rank s) waits agree h.calls_rise) (subst (λ n. AllBelow (call_rank s) n waits) (sym new) low);
-        calls_below = below_end (call_rank s) s.next waits w (below_more (call_rank s) r.next s.next waits (omega arith) low) (omega (arith, new));
-        numbers = below_end number_of (number.0 + 1) waits w (below_more number_of (last + 1) (number.0 + 1) waits (omega arith) h.numbers) (omega arith);
-      }
-    where
-      moved : (t : TaskId) (w : Wait)
-          → w.task ≡ t
-          → 1 ≤ times_listed t.0 runnable
-          → (id : ℕ) → times_listed id (without t runnable) + times_waiting id (waits ++ w ∷ []) ≡ one_if (is_active (get tasks id))
-      moved t w of listed id = elim (cases_eq id t.0) [
-        | inl same ↦ (
-            let one : one_if (w.task.0 == id) ≡ 1 = ap one_if (eq-eqb w.task.0 id (ap (λ (u : TaskId). u.0) of ∙ sym same)) in
-            let none : times_listed id (without t runnable) ≡ 0 = ap (λ i. times_listed i (without t runnable)) same ∙ listed_without_same t runnable in
-            let some : 1 ≤ times_listed id runnable = subst (λ i. 1 ≤ times_listed i runnable) (sym same) listed in
-            omega (arith, one, none, some, waiting_end id waits w, h.balanced.each id, one_at_most (is_active (get tasks id)))
-            )
-        | inr other ↦ (
-            let zero : one_if (w.task.0 == id) ≡ 0 = ap one_if (ne_eqb w.task.0 id (λ e. other (sym e ∙ ap (λ (u : TaskId). u.0) of))) in
-            omega (arith, zero, listed_without_other t id runnable other, waiting_end id waits w, h.balanced.each id)
-            )
-      ]
-
-  -- ---- the end of a runnable task
-
-  active_there : (o : Option Task) → is_active o ≡ true → (x : Task) × (o ≡ Some x)
-  active_there None e = cc
-  active_there (Some x) e = (x, refl)
-
-  active_one : (b : Bool) → 1 ≤ one_if b → b ≡ true
-  active_one true le = refl
-  active_one false le = absurd (omega (arith, le))
-
-  pub exited_stands : (t : TaskId) → 1 ≤ times_listed t.0 runnable → Stands (change tasks t.0 dormant) (without t runnable) waits last r
-  exited_stands t listed = record {
-    balanced = record { each = each; ids = λ id e. h.balanced.ids id (was_active id e) };
-    tasks_rise = rises_filter (task_rank r) _ runnable h.tasks_rise;
-    tasks_below = below_filter (task_rank r) r.next _ runnable h.tasks_below;
-    calls_rise = h.calls_rise;
-    calls_below = h.calls_below;
-    numbers = h.numbers;
-  }
-    where
-      active : is_active (get tasks t.0) ≡ true
-      active = active_one (is_active (get tasks t.0)) (omega (arith, h.balanced.each t.0, listed))
-
-      dormant_now : is_active (get (change tasks t.0 dormant) t.0) ≡ false
-      dormant_now = let x = active_there (get tasks t.0) active in ap is_active (get-change_same tasks t.0 dormant x.0 x.1)
-
-      same_other : (id : ℕ) → id ≢ t.0 → is_active (get (change tasks t.0 dormant) id) ≡ is_active (get tasks id)
-      same_other id other = ap is_active (get-change_other tasks t.0 id dormant other)
-
-      each : (id : ℕ) → times_listed id (without t runnable) + times_waiting id waits ≡ one_if (is_active (get (change tasks t.0 dormant) id))
-      each id = elim (cases_eq id t.0) [
-        | inl same ↦ (
-            let none : times_listed id (without t runnable) ≡ 0 = ap (λ i. times_listed i (without t runnable)) same ∙ listed_without_same t runnable in
-            let some : 1 ≤ times_listed id runnable = subst (λ i. 1 ≤ times_listed i runnable) (sym same) listed in
-            let zero : one_if (is_active (get (change tasks t.0 dormant) id)) ≡ 0 = ap (λ i. one_if (is_active (get (change tasks t.0 dormant) i))) same ∙ ap one_if dormant_now in
-            omega (arith, none, some, zero, h.balanced.each id, one_at_most (is_active (get tasks id)))
-            )
-        | inr other ↦ omega (arith, ap one_if (same_other id other), listed_without_other t id runnable other, h.balanced.each id)
-      ]
-
-      was_active : (id : ℕ) → is_active (get (change tasks t.0 dormant) id) ≡ true → is_active (get tasks id) ≡ true
-      was_active id e = elim (cases_eq id t.0) [
-        | inl same ↦ ap (λ i. is_active (get tasks i)) same ∙ active
-        | inr other ↦ sym (same_other id other) ∙ e
-      ]
+-- the running task waits
+pub waiting_stands : (k : PlainKernel) (task : TaskId) (reason : WaitReason) (tmo : Tmo) (number : CallNo)
+    → task.0 ≢ 0
+    → running (tasks_of k) ≡ task
+    → IsStanding k
+    → IsStanding (with_wait k task reason tmo number)
+waiting_stands k task reason tmo number some runs s = blocks_stands k s task reason tmo number (running_listed (tasks_of k) task some runs)

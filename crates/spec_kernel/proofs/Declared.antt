@@ -4,8 +4,8 @@ use Rattle.std.proofs.lemmas.Bool.{and_parts, leb-true}
 use Rattle.std.proofs.lemmas.List.{get_or-set_other, length-set}
 use Rattle.std.proofs.lemmas.List.Sums.{sum_by-set, count_by-le-length}
 use Rattle.spec_lists.specs.Tables.{get}
-use Rattle.spec_kernel.specs.PlainKernel.{greatest_id}
-use Rattle.spec_kernel.specs.Opening.{are_new_ids}
+use Rattle.spec_kernel.specs.Ids.{greatest_id}
+use Rattle.spec_kernel.specs.Ids.{are_new_ids}
 
 -- how many objects a table has
 abbrev pub occupied : {X : Type 0} → List (Option X) → ℕ

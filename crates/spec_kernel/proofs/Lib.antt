@@ -1,12 +1,5 @@
 pub mod Declared
 pub mod Least
-pub mod Leaving
-pub mod Readiness
-pub mod RowActs
-pub mod RowCases
-pub mod Settling
-pub mod Timing
-pub mod OutsideWaits
 pub mod TaskHistories
 pub mod SemaphoreHistories
 pub mod FlagHistories
@@ -16,6 +9,6 @@ pub mod OneSide
 pub mod ClockHistories
 pub mod WaitingParts
 pub mod RisingRanks
-pub mod WholeHistories
+pub mod Histories
 pub mod NobodyMet
 pub mod QueuesAtRest

@@ -9,7 +9,7 @@ use Rattle.it_types.specs.Table.{is_no_id}
 use Rattle.spec_lists.specs.Tables.{get}
 use Rattle.spec_kernel.specs.declared.reason.WaitReason.{WaitReason}
 use Rattle.spec_kernel.specs.declared.waiter.Waiter.{Waiter}
-use Rattle.spec_kernel.specs.PlainKernel.{greatest_id}
+use Rattle.spec_kernel.specs.Ids.{greatest_id}
 
 -- the tests of a call at an object of one kind: those of its id, and then the call's own
 abbrev pub at_object : {X : Type 0} → List (Option X) → ObjId → List (Bool × Er) → List (Bool × Er)

@@ -1,6 +1,7 @@
 -- The time of a kernel and its cyclic handlers (µITRON4.0 sections 4.7.1 and 4.7.2), and the calls on them, but for the test of the
 -- context in which each is made.
-use Rattle.std.specs.Prelude.{ℕ, ◌+◌, Bool, true, false, ◌&&◌, ◌||◌, ◌==◌, List, [], ◌∷◌, Option, Some, None, is_none, map, nat_lt, nat_le, if◌then◌else◌}
+use Rattle.std.specs.Prelude.{◌≡◌, ℕ, ◌+◌, Bool, true, false, ◌&&◌, ◌||◌, ◌==◌, List, [], ◌∷◌, Option, Some, None, is_none, map, nat_lt, nat_le, if◌then◌else◌}
+use Rattle.std.specs.List.{list_all}
 use Rattle.it_types.specs.declared.id.ObjId.{ObjId}
 use Rattle.it_types.specs.declared.er.Er.{Er}
 use Rattle.it_types.specs.declared.er.TheConstants.{E_OK, E_ID, E_NOEXS}
@@ -8,6 +9,7 @@ use Rattle.it_types.specs.declared.conf.CycDecl.{CycDecl}
 use Rattle.spec_lists.specs.Tables.{get, change, empty_table, filled}
 use Rattle.spec_lists.specs.Refusal.{first_refusal}
 use Rattle.spec_kernel.specs.declared.cyclic_block.CyclicBlock.{CyclicBlock}
+use Rattle.spec_kernel.specs.Ids.{are_new_up_to}
 
 pub record PlainClock : Type 0 where
   pub now : ℕ  -- the ticks so far
@@ -31,9 +33,16 @@ opened_clock cs = record { now = 0; system = 0; cyclics = filled cyclic_id cycli
 
 -- each id is from 1 to 8 and was not declared before
 abbrev pub are_new_cyclics : List (Option CyclicBlock) → List CycDecl → Bool
-are_new_cyclics cyclics [] = true
-are_new_cyclics cyclics (c ∷ cs) =
-    nat_le 1 c.id && (nat_le c.id greatest_cyclic && (is_none (get cyclics c.id) && are_new_cyclics (change cyclics c.id (λ o. Some (cyclic_at_start c))) cs))
+are_new_cyclics cyclics cs = are_new_up_to greatest_cyclic cyclic_id cyclic_at_start cyclics cs
+
+-- the ranges of a declaration, in ticks
+abbrev pub keeps_times : CycDecl → Bool
+keeps_times c = nat_le 1 c.period && (nat_le c.period 1000000 && nat_le c.phase 1000000)
+
+-- what can be declared: each id once and in its range, and all numbers in theirs
+pub record AreDeclarable (cycs : List CycDecl) : Type 0 where
+  pub ids : are_new_cyclics (empty_table greatest_cyclic) cycs ≡ true
+  pub ranges : list_all keeps_times cycs ≡ true
 
 -- ---- the system time (section 4.7.1)
 

@@ -9,10 +9,10 @@ use Rattle.spec_kernel.specs.declared.flag_block.FlagBlock.{FlagBlock}
 use Rattle.spec_kernel.specs.declared.reason.WaitReason.{WaitReason}
 use Rattle.spec_kernel.specs.declared.reason.WaitReason.TheVariants as reasons
 use Rattle.spec_kernel.specs.declared.waiter.Waiter.{Waiter}
-use Rattle.spec_kernel.specs.PlainKernel.{greatest_id}
+use Rattle.spec_kernel.specs.Ids.{greatest_id}
 use Rattle.spec_kernel.specs.Waiters.{left_by, next_waiter}
 use Rattle.spec_kernel.specs.Waiters.{reprioritised as reprioritised_in}
-use Rattle.spec_kernel.specs.Opening.{are_new_ids}
+use Rattle.spec_kernel.specs.Ids.{are_new_ids}
 use Rattle.spec_kernel.specs.ObjectRows.{told}
 use Rattle.spec_kernel.specs.Waiting.{flags_after}
 use Rattle.spec_kernel.specs.FlagBlocks.{pattern_of, is_ordered, holds, pattern_bytes, flag_id, flag_declared}

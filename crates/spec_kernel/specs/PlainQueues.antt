@@ -11,11 +11,11 @@ use Rattle.spec_kernel.specs.declared.handed.Handed.{Handed}
 use Rattle.spec_kernel.specs.declared.reason.WaitReason.{WaitReason}
 use Rattle.spec_kernel.specs.declared.reason.WaitReason.TheVariants as reasons
 use Rattle.spec_kernel.specs.declared.waiter.Waiter.{Waiter}
-use Rattle.spec_kernel.specs.PlainKernel.{greatest_id}
+use Rattle.spec_kernel.specs.Ids.{greatest_id}
 use Rattle.spec_kernel.specs.AnswerBytes.{four_bytes}
 use Rattle.spec_kernel.specs.Waiters.{left_by, next_waiter}
 use Rattle.spec_kernel.specs.Waiters.{reprioritised as reprioritised_in}
-use Rattle.spec_kernel.specs.Opening.{are_new_ids}
+use Rattle.spec_kernel.specs.Ids.{are_new_ids}
 use Rattle.spec_kernel.specs.ObjectRows.{told}
 use Rattle.spec_kernel.specs.Waiting.{queues_after}
 use Rattle.spec_kernel.specs.DataQueues.{DataQueue, queue_id, queue_declared, sends_by_priority, has_room, has_item, oldest_bytes, keeps_capacity}

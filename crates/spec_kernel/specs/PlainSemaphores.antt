@@ -10,10 +10,10 @@ use Rattle.spec_kernel.specs.declared.semaphore_block.SemaphoreBlock.{SemaphoreB
 use Rattle.spec_kernel.specs.declared.reason.WaitReason.{WaitReason}
 use Rattle.spec_kernel.specs.declared.reason.WaitReason.TheVariants as reasons
 use Rattle.spec_kernel.specs.declared.waiter.Waiter.{Waiter}
-use Rattle.spec_kernel.specs.PlainKernel.{greatest_id}
+use Rattle.spec_kernel.specs.Ids.{greatest_id}
 use Rattle.spec_kernel.specs.Waiters.{left_by, next_waiter}
 use Rattle.spec_kernel.specs.Waiters.{reprioritised as reprioritised_in}
-use Rattle.spec_kernel.specs.Opening.{are_new_ids}
+use Rattle.spec_kernel.specs.Ids.{are_new_ids}
 use Rattle.spec_kernel.specs.ObjectRows.{told}
 use Rattle.spec_kernel.specs.Waiting.{semaphores_after}
 use Rattle.spec_kernel.specs.SemaphoreBlocks.{is_ordered, has_count, semaphore_id, semaphore_declared, keeps_ranges}

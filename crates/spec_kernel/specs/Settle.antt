@@ -1,21 +1,24 @@
--- Which waiting call is met, and the ends of all that are, one after another (µITRON4.0 section 4.4.1 for the semaphores;
--- that all ends of an event come one after another in one step is this project's own).
-use Rattle.std.specs.Prelude.{◌≡◌, ℕ, zero, suc, Bool, false, List, [], ◌∷◌, ◌++◌, length, Option, Some, None, nat_lt}
+-- Which waiting call is met, and the ends of all that are, one after another (µITRON4.0 sections 4.2 and 4.4; that all ends of an event
+-- come one after another in one step is this project's own).
+use Rattle.std.specs.Prelude.{◌≡◌, ℕ, zero, suc, Bool, true, false, not, ◌&&◌, ◌||◌, List, [], ◌∷◌, ◌++◌, length, Option, Some, None, nat_lt}
+use Rattle.std.specs.List.{list_any}
 use Rattle.it_types.specs.declared.id.TaskId.{TaskId}
+use Rattle.it_types.specs.declared.er.Er.{Er}
 use Rattle.it_types.specs.declared.er.TheConstants.{E_OK}
-use Rattle.spec_lists.specs.Tables.{get, change}
+use Rattle.spec_lists.specs.Tables.{get}
 use Rattle.spec_lists.specs.First.{take_first}
-use Rattle.spec_kernel.specs.declared.semaphore.Semaphore.{Semaphore}
-use Rattle.spec_kernel.specs.declared.wait.Wait.{Wait}
-use Rattle.spec_kernel.specs.declared.wait.WaitFor.{WaitFor}
-use Rattle.spec_kernel.specs.declared.wait.WaitFor.TheVariants as targets
+use Rattle.spec_kernel.specs.declared.reason.WaitReason.{WaitReason}
+use Rattle.spec_kernel.specs.declared.reason.WaitReason.TheVariants as reasons
+use Rattle.spec_kernel.specs.declared.reason.WaitingCall.{WaitingCall}
 use Rattle.spec_kernel.specs.declared.outcome.KAns.{KAns}
 use Rattle.spec_kernel.specs.declared.outcome.KEnd.{KEnd}
-use Rattle.spec_kernel.specs.PlainKernel.{PlainKernel}
-use Rattle.spec_kernel.specs.Semaphores.{count_of, one_less}
+use Rattle.spec_kernel.specs.TaskBlocks.{wakeups_of}
+use Rattle.spec_kernel.specs.PlainTasks.{released, woken}
+use Rattle.spec_kernel.specs.Waiters.{is_same_queue}
+use Rattle.spec_kernel.specs.Waiting.{is_met, bytes_of, taken}
+use Rattle.spec_kernel.specs.PlainKernel.{PlainKernel, tasks_of, with_tasks, waiter_of}
 
--- what a kernel call gives: the state after it, its answer, the ends of calls, the task that ended and the one that
--- began, if any
+-- what a kernel event gives: the state after it, its answer, the ends of calls, the task that ended and the one that began, if any
 pub record Outcome : Type 0 where
   pub kernel : PlainKernel
   pub answer : KAns
@@ -23,50 +26,67 @@ pub record Outcome : Type 0 where
   pub gone : TaskId
   pub begun : TaskId
 
--- a call is ready: the condition that it waits for holds; a delay is over by its deadline alone, and what a call of the
--- network part waits for the kernel doesn't know
-abbrev pub is_met : List (Option Semaphore) → WaitFor → Bool
-is_met semaphores (targets.Semaphore s) = nat_lt 0 (count_of (get semaphores s.0))
-is_met semaphores targets.Delay = false
-is_met semaphores targets.Outside = false
+-- ---- ends
 
-abbrev pub is_ready : List (Option Semaphore) → Wait → Bool
-is_ready semaphores w = is_met semaphores w.target
+abbrev pub is_outside : WaitReason → Bool
+is_outside reasons.Outside = true
+is_outside _ = false
 
--- the first ready call, and the others
-abbrev pub first_ready : PlainKernel → Option (Wait × List Wait)
-first_ready k = take_first (is_ready k.semaphores) k.waits
+-- the end of a call with a code and bytes
+abbrev pub ending : WaitingCall → Er → List ℕ → KEnd
+ending w code bytes = record { call = w.call; task = w.task; code = code; bytes = bytes; outside = is_outside w.reason }
+
+-- the state after a call has ended that takes nothing, with the other calls that wait; its task is runnable, unless it is suspended
+abbrev pub ended : PlainKernel → WaitingCall → List WaitingCall → PlainKernel
+ended k w others = record (with_tasks k (released (tasks_of k) w.task)) { waits = others }
+
+-- ---- who is ready
+
+-- a sleeper has a wake-up
+abbrev pub is_awake : PlainKernel → WaitingCall → Bool
+is_awake k w = is_sleep w.reason && nat_lt 0 (wakeups_of (get k.tasks w.task.0))
+  where
+    is_sleep : WaitReason → Bool
+    is_sleep reasons.Sleep = true
+    is_sleep _ = false
+
+-- what the call waits for is there
+abbrev pub is_ready : PlainKernel → WaitingCall → Bool
+is_ready k w = is_met k.objects w.reason || is_awake k w
+
+abbrev pub urgency_of : PlainKernel → WaitingCall → ℕ
+urgency_of k w = (waiter_of k w).urgency
+
+-- it is ready, and in the same queue none is ready that is more urgent
+abbrev pub comes_next : PlainKernel → WaitingCall → Bool
+comes_next k w = is_ready k w && not (list_any (λ v. (is_ready k v && is_same_queue v.reason w.reason) && nat_lt (urgency_of k v) (urgency_of k w)) k.waits)
+
+-- of the calls that come next in their queues the first in rank, and the others
+abbrev pub next_freed : PlainKernel → Option (WaitingCall × List WaitingCall)
+next_freed k = take_first (comes_next k) k.waits
 
 -- no call that waits is ready
 abbrev pub AtRest : PlainKernel → Type 0
-AtRest k = first_ready k ≡ None
+AtRest k = take_first (is_ready k) k.waits ≡ None
 
--- what the end of a call takes from the semaphores
-abbrev pub taken : WaitFor → List (Option Semaphore) → List (Option Semaphore)
-taken (targets.Semaphore s) semaphores = change semaphores s.0 one_less
-taken targets.Delay semaphores = semaphores
-taken targets.Outside semaphores = semaphores
-
--- the state after a call has ended that takes nothing, with the other calls that wait; its task becomes runnable
-abbrev pub woken : PlainKernel → Wait → List Wait → PlainKernel
-woken k w others = record k { waits = others; runnable = k.runnable ++ w.task ∷ [] }
+-- ---- the ends of all that are ready
 
 -- the state after a call was met and ended: it takes what it waited for
-abbrev pub freed : PlainKernel → Wait → List Wait → PlainKernel
-freed k w others = record (woken k w others) { semaphores = taken w.target k.semaphores }
+abbrev pub freed : PlainKernel → WaitingCall → List WaitingCall → PlainKernel
+freed k w others = record (with_tasks k (woken (tasks_of k) w.task)) { waits = others; objects = taken k.objects w.reason }
 
-abbrev pub end_of : Wait → KEnd
-end_of w = record { call = w.call; task = w.task; code = E_OK; bytes = []; outside = false }
+abbrev pub end_of : PlainKernel → WaitingCall → KEnd
+end_of k w = ending w E_OK (bytes_of k.objects w.reason)
 
 -- the end of the call that was found, and what goes on after it
-abbrev pub turn : (PlainKernel → PlainKernel × List KEnd) → PlainKernel → Option (Wait × List Wait) → PlainKernel × List KEnd
+abbrev pub turn : (PlainKernel → PlainKernel × List KEnd) → PlainKernel → Option (WaitingCall × List WaitingCall) → PlainKernel × List KEnd
 turn go_on k None = (k, [])
-turn go_on k (Some found) = let rest = go_on (freed k found.0 found.1) in (rest.0, end_of found.0 ∷ rest.1)
+turn go_on k (Some found) = let rest = go_on (freed k found.0 found.1) in (rest.0, end_of k found.0 ∷ rest.1)
 
--- while a call is ready, the first of them ends: as many times as there are calls, at most
+-- while a call is ready, one ends: as many times as there are calls, at most
 unfoldable pub settle : ℕ → PlainKernel → PlainKernel × List KEnd
 settle zero k = (k, [])
-settle (suc n) k = turn (settle n) k (first_ready k)
+settle (suc n) k = turn (settle n) k (next_freed k)
 
 -- the outcome of a row, after all that it made ready has ended
 unfoldable pub settled : Outcome → Outcome

@@ -11,7 +11,7 @@ use Rattle.spec_lists.specs.Refusal.{first_refusal}
 use Rattle.spec_kernel.specs.declared.did.Did.{Did}
 use Rattle.spec_kernel.specs.declared.task_block.TaskBlock.{TaskBlock}
 use Rattle.spec_kernel.specs.declared.task_wait.TaskWait.TheVariants.{Sleep, Other}
-use Rattle.spec_kernel.specs.PlainKernel.{greatest_id}
+use Rattle.spec_kernel.specs.Ids.{greatest_id}
 use Rattle.spec_kernel.specs.TaskBlocks.{priority_of, activations_of, wakeups_of, suspensions_of, is_active, is_suspended, is_greatest, dormant, begun, with_priority, one_activation_more, one_activation_less, without_activations, one_wakeup_more, one_wakeup_less, without_wakeups, one_suspension_more, with_suspensions}
 use Rattle.spec_kernel.specs.PlainTasks.{PlainTasks, block_of, is_waiting, is_asleep, with_task, running, is_same, leaving, joining, joining_unless, has_priority, last_in_order, waiting, released}
 

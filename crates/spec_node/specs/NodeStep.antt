@@ -18,7 +18,7 @@ use Rattle.spec_kernel.specs.declared.outcome.KAns.{KAns}
 use Rattle.spec_kernel.specs.declared.outcome.KAns.TheVariants as kernel_answers
 use Rattle.spec_kernel.specs.PlainKernel.{PlainKernel}
 use Rattle.spec_kernel.specs.Rows.{call, tick}
-use Rattle.spec_kernel.specs.Outside.{blocked}
+use Rattle.spec_kernel.specs.Time.{blocked}
 use Rattle.spec_net.specs.declared.outcome.NetAnswer.{NetAnswer}
 use Rattle.spec_net.specs.declared.outcome.NetAnswer.TheVariants as net_answers
 use Rattle.spec_net.specs.UdpRows.{net_call}
@@ -57,6 +57,10 @@ abbrev pub holding : List TaskEnd → List (Option Held) → List (Option Held)
 holding [] held = held
 holding (e ∷ es) held = holding es (slice_set held e.task.0 (Some (record { code = e.code; bytes = e.bytes })))
 
+-- a task that has ended holds no answer, nor does its next life
+abbrev pub forgetting : TaskId → List (Option Held) → List (Option Held)
+forgetting gone held = if gone.0 == 0 then held else slice_set held gone.0 None
+
 abbrev pub gone_marks : TaskId → List Mark
 gone_marks task = if task.0 == 0 then [] else marks.Gone task ∷ []
 
@@ -73,8 +77,8 @@ run_marks before after = if after.0 == before.0 then [] else marks.Run after ∷
 abbrev pub beginning : PlainNode → Progress
 beginning n = record { kernel = n.kernel; net = n.net; ends = []; packets = [] }
 
-abbrev pub node_after : PlainNode → Ans → Progress → PlainNode
-node_after n answer p = record { kernel = p.kernel; net = p.net; held = holding p.ends n.held; calls = n.calls + drawn answer }
+abbrev pub node_after : PlainNode → Ans → TaskId → Progress → PlainNode
+node_after n answer gone p = record { kernel = p.kernel; net = p.net; held = forgetting gone (holding p.ends n.held); calls = n.calls + drawn answer }
 
 abbrev pub out_of : PlainNode → Ans → TaskId → TaskId → Progress → Out
 out_of n answer gone begun p = record {
@@ -86,7 +90,7 @@ out_of n answer gone begun p = record {
 
 -- the node after an event with this answer, and what it gives
 abbrev pub done : PlainNode → Ans → TaskId → TaskId → Progress → PlainNode × Out
-done n answer gone begun p = (node_after n answer p, out_of n answer gone begun p)
+done n answer gone begun p = (node_after n answer gone p, out_of n answer gone begun p)
 
 -- ---- the events
 

@@ -4,8 +4,9 @@ use Rattle.std.specs.Prelude.{ℕ, Bool, List, Option, is_some}
 use Rattle.it_types.specs.declared.id.TaskId.{TaskId}
 use Rattle.it_types.specs.declared.conf.KConf.{KConf}
 use Rattle.spec_lists.specs.Tables.{get, empty_table}
-use Rattle.spec_kernel.specs.PlainKernel.{PlainKernel, greatest_id}
-use Rattle.spec_kernel.specs.Tasks.{running}
+use Rattle.spec_kernel.specs.Ids.{greatest_id}
+use Rattle.spec_kernel.specs.PlainTasks.{running}
+use Rattle.spec_kernel.specs.PlainKernel.{PlainKernel, tasks_of}
 use Rattle.spec_kernel.specs.Opening.{opened}
 use Rattle.spec_net.specs.PlainNet.{PlainNet, opened_net}
 use Rattle.spec_node.specs.declared.held.Held.{Held}
@@ -17,7 +18,7 @@ pub record PlainNode : Type 0 where
   pub calls : ℕ  -- the call numbers drawn so far
 
 abbrev pub running_in : PlainKernel → TaskId
-running_in k = running k.tasks k.runnable
+running_in k = running (tasks_of k)
 
 -- the running task, or nobody
 abbrev pub running_task : PlainNode → TaskId

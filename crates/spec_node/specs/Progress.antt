@@ -8,8 +8,7 @@ use Rattle.it_types.specs.declared.er.Er.{Er}
 use Rattle.spec_kernel.specs.declared.outcome.KEnd.{KEnd}
 use Rattle.spec_kernel.specs.PlainKernel.{PlainKernel}
 use Rattle.spec_kernel.specs.Settle.{Outcome}
-use Rattle.spec_kernel.specs.Deadlines.{due}
-use Rattle.spec_kernel.specs.Outside.{unblocked}
+use Rattle.spec_kernel.specs.Time.{due, unblocked}
 use Rattle.spec_net.specs.declared.outcome.NetEnd.{NetEnd}
 use Rattle.spec_net.specs.PlainNet.{PlainNet, NetOutcome}
 use Rattle.spec_net.specs.NetEnds.{ended}

@@ -1,14 +1,14 @@
 //! The kernel event by event: what each call, tick and end by time comes to.
 
 ghost use Rattle.std.specs.Prelude.{IfOk};
-ghost use Rattle.spec_kernel.specs.WholeOpening.{IsWholeDeclarable};
+ghost use Rattle.spec_kernel.specs.Opening.{IsDeclarable};
 
 use it_types::{
     CallNo, Ctx, CycConf, CycDecl, DtqDecl, E_CTX, E_ILUSE, E_OK, E_QOVR, E_RLWAI, E_TMOUT, Er,
     FlgDecl, KConf, KReq, List, NoMemory, ObjId, SemDecl, SyncConf, TaskConf, TaskDecl, TaskId,
     Tmo,
 };
-use k_kernel::{Done, KAns, KEnd, Kernel};
+use k_core::{Done, KAns, KEnd, Kernel};
 use std::alloc::Global;
 use std::process::Abort;
 use std::test::*;
@@ -85,7 +85,7 @@ const STANDS: CycDecl = CycDecl {
 // Tasks 1 of priority 8 and 2 of priority 5 are active, and task 3 of priority 3 isn't. They wait at a semaphore by priority, at two
 // flags, and at a data queue without capacity.
 fn declared(alloc: Global) -> Result<KConf, NoMemory>
-    ensures { IfOk result (λ c. IsWholeDeclarable c) }
+    ensures { IfOk result (λ c. IsDeclarable c) }
 {
     Ok(KConf {
         tasks: TaskConf {

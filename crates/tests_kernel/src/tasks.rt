@@ -2,8 +2,8 @@
 
 ghost use Rattle.std.specs.Prelude.{◌≡◌, IfOk, true};
 ghost use Rattle.spec_lists.specs.Tables.{empty_table};
-ghost use Rattle.spec_kernel.specs.PlainKernel.{greatest_id};
-ghost use Rattle.spec_kernel.specs.Opening.{are_new_ids, task_id};
+ghost use Rattle.spec_kernel.specs.Ids.{greatest_id};
+ghost use Rattle.spec_kernel.specs.Ids.{are_new_ids, task_id};
 ghost use Rattle.spec_kernel.specs.TaskOpening.{block_at_start};
 
 use it_types::{

@@ -1,7 +1,7 @@
 use Rattle.std.proofs.Common.{◌≡◌, true, drop}
 use Rattle.spec_lists.specs.Tables.{empty_table, filled}
-use Rattle.spec_kernel.specs.Opening.{are_new_ids}
-use Rattle.spec_kernel.specs.PlainKernel.{greatest_id}
+use Rattle.spec_kernel.specs.Ids.{are_new_ids}
+use Rattle.spec_kernel.specs.Ids.{greatest_id}
 use Rattle.spec_kernel.specs.FlagBlocks.{flag_id, flag_declared}
 use Rattle.k_sync.proofs.flag_table.declared.Given as goal
 

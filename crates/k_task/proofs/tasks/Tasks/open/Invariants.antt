@@ -1,5 +1,5 @@
 use Rattle.std.proofs.Common.{◌≡◌, true, drop}
-use Rattle.spec_kernel.specs.Opening.{are_new_ids, task_id}
+use Rattle.spec_kernel.specs.Ids.{are_new_ids, task_id}
 use Rattle.spec_kernel.specs.TaskOpening.{all_declared, block_at_start, opened_tasks}
 use Rattle.k_task.proofs.tasks.Tasks.open.Given as goal
 
