@@ -9,8 +9,8 @@ use Rattle.it_types.specs.declared.id.TaskId.{TaskId}
 use Rattle.it_types.specs.declared.entry.Entry.{Entry}
 use Rattle.spec_lists.specs.Tables.{get}
 use Rattle.spec_lists.proofs.Firsts.{cases_of_first}
-use Rattle.spec_kernel.specs.declared.task.Task.{Task}
-use Rattle.spec_kernel.specs.Tasks.{is_active}
+use Rattle.spec_kernel.specs.declared.task_block.TaskBlock.{TaskBlock}
+use Rattle.spec_kernel.specs.TaskBlocks.{is_active}
 use Rattle.spec_script.specs.declared.decl.Decl.{Decl}
 use Rattle.spec_node.specs.PlainNode.{PlainNode, running_task}
 use Rattle.spec_sim.specs.Schedule.{Plan, PlainPlay, node_0, node_1, is_outstanding, runs, task_event, is_any_active, is_over, idle_event, node_event, next}
@@ -29,12 +29,12 @@ runs_false n e = elim (cases_Bool ((running_task n).0 == 0)) [
   | inr t ↦ absurd (let f : not false ≡ false = ap not (sym t) ∙ e in cc)
 ]
 
-none_active : (tasks : List (Option Task)) → list_any is_active tasks ≡ false → (id : ℕ) → is_active (get tasks id) ≡ false
+none_active : (tasks : List (Option TaskBlock)) → list_any is_active tasks ≡ false → (id : ℕ) → is_active (get tasks id) ≡ false
 none_active [] e id = refl
 none_active (t ∷ ts) e zero = elim (cases_Bool (is_active t)) [ inl a ↦ absurd (let f : true ≡ false = sym (rw a refl) ∙ e in cc) | inr a ↦ a ]
 none_active (t ∷ ts) e (suc id) = elim (cases_Bool (is_active t)) [ inl a ↦ absurd (let f : true ≡ false = sym (rw a refl) ∙ e in cc) | inr a ↦ none_active ts (rw a at e) id ]
 
-active_none : (tasks : List (Option Task)) → ((id : ℕ) → is_active (get tasks id) ≡ false) → list_any is_active tasks ≡ false
+active_none : (tasks : List (Option TaskBlock)) → ((id : ℕ) → is_active (get tasks id) ≡ false) → list_any is_active tasks ≡ false
 active_none [] h = refl
 active_none (t ∷ ts) h = rw (h 0, active_none ts (λ id. h (suc id))) refl
 
@@ -69,16 +69,16 @@ not_ticked false true c d e h = let f : true ≡ false = sym (rw (h.0, h.1) refl
 not_ticked false false c d e h = cc
 
 over_true : (plan : Plan) (p : PlainPlay) → is_outstanding p ≡ false → is_over plan p ≡ true → IsOver plan p.world
-over_true plan p q e = elim (two_ways (is_any_active p.world.nodes.first) (is_any_active p.world.nodes.second) (nat_le plan.ticks p.world.nodes.first.kernel.now) (nat_le plan.ticks p.world.nodes.second.kernel.now) (rw q at e)) [
+over_true plan p q e = elim (two_ways (is_any_active p.world.nodes.first) (is_any_active p.world.nodes.second) (nat_le plan.ticks p.world.nodes.first.kernel.clock.now) (nat_le plan.ticks p.world.nodes.second.kernel.clock.now) (rw q at e)) [
   | inl h ↦ dormant (all_dormant p.world.nodes.first h.0) (all_dormant p.world.nodes.second h.1)
   | inr h ↦ ticked (leb-true _ _ h.0) (leb-true _ _ h.1)
 ]
 
 over_false : (plan : Plan) (p : PlainPlay) → is_outstanding p ≡ false → is_over plan p ≡ false → IsOver plan p.world → ⊥
 over_false plan p q e (dormant a b) =
-    not_dormant (is_any_active p.world.nodes.first) (is_any_active p.world.nodes.second) (nat_le plan.ticks p.world.nodes.first.kernel.now) (nat_le plan.ticks p.world.nodes.second.kernel.now) (rw q at e) (not_active p.world.nodes.first a, not_active p.world.nodes.second b)
+    not_dormant (is_any_active p.world.nodes.first) (is_any_active p.world.nodes.second) (nat_le plan.ticks p.world.nodes.first.kernel.clock.now) (nat_le plan.ticks p.world.nodes.second.kernel.clock.now) (rw q at e) (not_active p.world.nodes.first a, not_active p.world.nodes.second b)
 over_false plan p q e (ticked a b) =
-    not_ticked (is_any_active p.world.nodes.first) (is_any_active p.world.nodes.second) (nat_le plan.ticks p.world.nodes.first.kernel.now) (nat_le plan.ticks p.world.nodes.second.kernel.now) (rw q at e) (le-leb _ _ a, le-leb _ _ b)
+    not_ticked (is_any_active p.world.nodes.first) (is_any_active p.world.nodes.second) (nat_le plan.ticks p.world.nodes.first.kernel.clock.now) (nat_le plan.ticks p.world.nodes.second.kernel.clock.now) (rw q at e) (le-leb _ _ a, le-leb _ _ b)
 
 idle_due : (plan : Plan) (before : List Entry) (p : PlainPlay)
     → is_outstanding p ≡ false
@@ -86,7 +86,7 @@ idle_due : (plan : Plan) (before : List Entry) (p : PlainPlay)
     → IsScheduled plan before p (idle_event plan p)
 idle_due plan before p q still = elim (cases_Bool (is_over plan p)) [
   | inl t ↦ rw t (stop still (over_true plan p q t))
-  | inr f ↦ rw f (elim (cases_Bool (nat_le p.world.nodes.first.kernel.now p.world.nodes.second.kernel.now)) [
+  | inr f ↦ rw f (elim (cases_Bool (nat_le p.world.nodes.first.kernel.clock.now p.world.nodes.second.kernel.clock.now)) [
     | inl u ↦ rw u (tick_of_first still (over_false plan p q f) (leb-true _ _ u))
     | inr u ↦ rw u (tick_of_second still (over_false plan p q f) (leb-false _ _ u))
   ])

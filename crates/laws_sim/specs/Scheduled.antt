@@ -7,7 +7,7 @@ use Rattle.it_types.specs.declared.event.Event.{Event}
 use Rattle.it_types.specs.declared.event.Event.TheVariants as events
 use Rattle.it_types.specs.declared.entry.Entry.{Entry}
 use Rattle.spec_lists.specs.Tables.{get}
-use Rattle.spec_kernel.specs.Tasks.{is_active}
+use Rattle.spec_kernel.specs.TaskBlocks.{is_active}
 use Rattle.spec_script.specs.declared.decl.Decl.{Decl}
 use Rattle.spec_node.specs.declared.held.Held.{Held}
 use Rattle.spec_node.specs.PlainNode.{PlainNode, running_task}
@@ -66,7 +66,7 @@ pub record IsStill (before : List Entry) (w : PlainWorld) : Type 0 where
 -- every task of both nodes is dormant, or both nodes had all their ticks
 pub data IsOver (plan : Plan) (w : PlainWorld) : Type 0 where
   dormant : IsDormant w.nodes.first → IsDormant w.nodes.second → IsOver plan w
-  ticked : plan.ticks ≤ w.nodes.first.kernel.now → plan.ticks ≤ w.nodes.second.kernel.now → IsOver plan w
+  ticked : plan.ticks ≤ w.nodes.first.kernel.clock.now → plan.ticks ≤ w.nodes.second.kernel.clock.now → IsOver plan w
 
 -- The points of the schedule, each where no earlier one applies: the delivery of the next packet in the order of sending;
 -- the running task of node 0; that of node 1; the stop; a tick of the node with fewer ticks, of node 0 where they are equal.
@@ -87,11 +87,11 @@ pub data IsScheduled (plan : Plan) (before : List Entry) (p : PlainPlay) : Event
   stop : IsStill before p.world → IsOver plan p.world → IsScheduled plan before p events.Stop
   tick_of_first : IsStill before p.world
       → (IsOver plan p.world → ⊥)
-      → p.world.nodes.first.kernel.now ≤ p.world.nodes.second.kernel.now
+      → p.world.nodes.first.kernel.clock.now ≤ p.world.nodes.second.kernel.clock.now
       → IsScheduled plan before p (events.Tick node_0)
   tick_of_second : IsStill before p.world
       → (IsOver plan p.world → ⊥)
-      → p.world.nodes.second.kernel.now < p.world.nodes.first.kernel.now
+      → p.world.nodes.second.kernel.clock.now < p.world.nodes.first.kernel.clock.now
       → IsScheduled plan before p (events.Tick node_1)
 
 -- ---- histories

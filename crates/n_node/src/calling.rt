@@ -41,7 +41,7 @@ impl Parts {
         requires some { by.0 ≢ 0 }
         requires runs { running_in self.old.kernel ≡ by }
         requires calls { self.old.calls < 2 ^ 31 - 1 }
-        requires now { self.old.kernel.now < 2 ^ 59 }
+        requires now { self.old.kernel.clock.now < 2 ^ 59 }
         ensures { IfOk result (λ o. node_step (plain self.old) (Called (InTask by) request.now) ≡ (plain self.new, o)) }
     {
         match request.kernel() {
@@ -56,7 +56,7 @@ impl Parts {
         requires some { by.0 ≢ 0 }
         requires runs { running_in self.old.kernel ≡ by }
         requires calls { self.old.calls < 2 ^ 31 - 1 }
-        requires now { self.old.kernel.now < 2 ^ 59 }
+        requires now { self.old.kernel.clock.now < 2 ^ 59 }
         ensures { IfOk result (λ o. kernel_called (plain self.old) (InTask by) request.now ≡ (plain self.new, o)) }
     {
         let before = self.kernel.running();

@@ -30,7 +30,7 @@ impl Parts {
         requires some { by.0 ≢ 0 }
         requires runs { running_in self.old.kernel ≡ by }
         requires calls { self.old.calls < 2 ^ 31 - 1 }
-        requires now { self.old.kernel.now < 2 ^ 59 }
+        requires now { self.old.kernel.clock.now < 2 ^ 59 }
         ensures { IfOk result (λ o. network_called (plain self.old) (InTask by) request.now ≡ (plain self.new, o)) }
     {
         let number = CallNo(self.calls + 1);
@@ -46,7 +46,7 @@ impl Parts {
         requires runs { running_in self.old.kernel ≡ by }
         requires waits { answer ≡ Pends → may_wait tmo ≡ true }
         requires calls { self.old.calls < 2 ^ 31 - 1 }
-        requires now { self.old.kernel.now < 2 ^ 59 }
+        requires now { self.old.kernel.clock.now < 2 ^ 59 }
         ensures answer { result ≡ net_answer (self.old.calls + 1) answer }
         ensures node { plain self.new ≡ record (plain self.old) { kernel = blocked_when answer self.old.kernel by tmo (record { 0 = self.old.calls + 1 }); calls = self.old.calls + drawn result } }
     {
@@ -75,7 +75,7 @@ impl Parts {
         requires runs { running_in self.old.kernel ≡ by }
         requires waits { out.ans ≡ Pends → may_wait tmo ≡ true }
         requires calls { self.old.calls < 2 ^ 31 - 1 }
-        requires now { self.old.kernel.now < 2 ^ 59 }
+        requires now { self.old.kernel.clock.now < 2 ^ 59 }
         ensures { IfOk result (λ told. (o : NetOutcome) → Does self.old.udps out o → network_done (plain self.old) o by tmo ≡ (plain self.new, told)) }
     {
         let before = self.kernel.running();

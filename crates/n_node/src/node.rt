@@ -70,7 +70,7 @@ impl Node {
 
     /// The ticks so far.
     pub fn now(&self) -> u64
-        ensures { result ≡ self.now.kernel.now }
+        ensures { result ≡ self.now.kernel.clock.now }
     {
         self.parts.kernel.now()
     }
@@ -116,7 +116,7 @@ impl Node {
     pub fn call(&mut self, alloc: Global, ctx: Ctx, request: &Req) -> Result<Out, NoMemory>
         requires admitted { is_admitted self.old (Called ctx request.now) ≡ true }
         requires calls { self.old.calls < 2 ^ 31 - 1 }
-        requires now { self.old.kernel.now < 2 ^ 59 }
+        requires now { self.old.kernel.clock.now < 2 ^ 59 }
         ensures { IfOk result (λ o. node_step self.old (Called ctx request.now) ≡ (self.new, o)) }
     {
         if self.failed {
@@ -144,7 +144,7 @@ impl Node {
     /// A tick of the node's clock, and the ends of all calls whose deadline is at or before it. Without memory the node is
     /// not used again.
     pub fn tick(&mut self, alloc: Global) -> Result<Out, NoMemory>
-        requires { self.old.kernel.now < 2 ^ 59 }
+        requires { self.old.kernel.clock.now < 2 ^ 59 }
         ensures { IfOk result (λ o. node_step self.old Ticked ≡ (self.new, o)) }
     {
         if self.failed {

@@ -13,7 +13,7 @@ use std::alloc::Global;
 impl Parts {
     /// A tick of the node's clock, and the ends of all calls whose deadline is at or before it.
     pub(crate) fn tick(&mut self, alloc: Global) -> Result<Out, NoMemory>
-        requires { self.old.kernel.now < 2 ^ 59 }
+        requires { self.old.kernel.clock.now < 2 ^ 59 }
         ensures { IfOk result (λ o. node_step (plain self.old) Ticked ≡ (plain self.new, o)) }
     {
         let before = self.kernel.running();

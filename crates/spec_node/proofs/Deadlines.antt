@@ -7,9 +7,8 @@ use Rattle.spec_wire.specs.Sum.{ones_sum}
 use Rattle.spec_wire.specs.Ipv4 as ipv4
 use Rattle.spec_wire.specs.Udp as udp
 use Rattle.spec_kernel.specs.Settle as kernel_settle
-use Rattle.spec_kernel.specs.Deadlines.{due}
+use Rattle.spec_kernel.specs.Time.{due, unblocked}
 use Rattle.spec_kernel.specs.Rows as kernel_rows
-use Rattle.spec_kernel.specs.Outside.{unblocked}
 use Rattle.spec_net.specs.Ports.{first_free}
 use Rattle.spec_net.specs.Packets.{arrived_in}
 use Rattle.spec_net.specs.NetSettle as net_settle

@@ -4,7 +4,7 @@ use Rattle.std.specs.Prelude.{negsuc}
 use Rattle.it_types.specs.declared.entry.Entry.{Entry}
 use Rattle.it_types.specs.declared.answer.Ans.TheVariants.{Quiet}
 use Rattle.spec_kernel.specs.Settle.{settle, settled}
-use Rattle.spec_kernel.specs.Deadlines.{due}
+use Rattle.spec_kernel.specs.Time.{due}
 use Rattle.spec_kernel.specs.Rows as rows
 use Rattle.spec_node.specs.Progress as progress
 use Rattle.spec_node.specs.NodeStep as node

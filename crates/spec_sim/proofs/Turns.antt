@@ -53,7 +53,7 @@ turn_admitted w id places decls known t = elim (cases_Bool (holds_answer (node_a
 pub idle_admitted : (plan : Plan) (p : PlainPlay) → is_admitted p.world (idle_event plan p) ≡ true
 idle_admitted plan p = elim (cases_Bool (is_over plan p)) [
   | inl t ↦ rw t refl
-  | inr f ↦ rw f (elim (cases_Bool (nat_le p.world.nodes.first.kernel.now p.world.nodes.second.kernel.now)) [ inl t ↦ rw t refl | inr g ↦ rw g refl ])
+  | inr f ↦ rw f (elim (cases_Bool (nat_le p.world.nodes.first.kernel.clock.now p.world.nodes.second.kernel.clock.now)) [ inl t ↦ rw t refl | inr g ↦ rw g refl ])
 ]
 
 pub node_event_admitted : (plan : Plan) (p : PlainPlay) → is_admitted p.world (node_event plan p) ≡ true

@@ -8,8 +8,8 @@ use Rattle.it_types.specs.declared.context.Ctx.TheVariants as contexts
 use Rattle.it_types.specs.declared.event.Event.{Event}
 use Rattle.it_types.specs.declared.event.Event.TheVariants as events
 use Rattle.it_types.specs.declared.entry.Entry.{Entry}
-use Rattle.spec_kernel.specs.PlainKernel.{greatest_id}
-use Rattle.spec_kernel.specs.Tasks.{is_active}
+use Rattle.spec_kernel.specs.Ids.{greatest_id}
+use Rattle.spec_kernel.specs.TaskBlocks.{is_active}
 use Rattle.spec_script.specs.declared.decl.Decl.{Decl}
 use Rattle.spec_script.specs.declared.script.Script.{Script}
 use Rattle.spec_script.specs.Lines.{first_node, second_node}
@@ -59,11 +59,11 @@ is_any_active n = list_any is_active n.kernel.tasks
 abbrev pub is_over : Plan → PlainPlay → Bool
 is_over plan p =
     (not (is_any_active p.world.nodes.first) && (not (is_any_active p.world.nodes.second) && not (is_outstanding p)))
-    || (nat_le plan.ticks p.world.nodes.first.kernel.now && nat_le plan.ticks p.world.nodes.second.kernel.now)
+    || (nat_le plan.ticks p.world.nodes.first.kernel.clock.now && nat_le plan.ticks p.world.nodes.second.kernel.clock.now)
 
 -- the node with fewer ticks, node 0 where they are equal
 abbrev pub slower : Nodes → NodeId
-slower nodes = if nat_le nodes.first.kernel.now nodes.second.kernel.now then node_0 else node_1
+slower nodes = if nat_le nodes.first.kernel.clock.now nodes.second.kernel.clock.now then node_0 else node_1
 
 -- the stop, or a tick
 abbrev pub idle_event : Plan → PlainPlay → Event
