@@ -2,9 +2,10 @@
 use Rattle.std.proofs.Common.{◌≡◌, ℕ, Bool, true, false, List, [], ◌∷◌, ◌++◌, map, slice_set, Option, Some, refl, ap, sym, ◌∙◌, append_assoc}
 use Rattle.std.proofs.lemmas.List.{append-nil, map-append}
 use Rattle.it_types.specs.declared.answer.Ans.{Ans}
+use Rattle.it_types.specs.Callers.{nobody}
 use Rattle.spec_kernel.specs.declared.outcome.KEnd.{KEnd}
 use Rattle.spec_kernel.specs.PlainKernel.{PlainKernel}
-use Rattle.spec_kernel.specs.Outside.{unblocked}
+use Rattle.spec_kernel.specs.Time.{unblocked}
 use Rattle.spec_net.specs.declared.outcome.NetEnd.{NetEnd}
 use Rattle.spec_net.specs.PlainNet.{NetOutcome}
 use Rattle.spec_net.specs.NetEnds.{ended}
@@ -43,7 +44,7 @@ pub one_end : (start : PlainNode) (answer : Ans) (before : Told) (p : Progress) 
 one_end start answer before p parts after told told_after kernel e h node ends packets = record {
   node =
       node ∙ ap (λ (n : PlainNode). record n { kernel = kernel; held = held_with e n.held }) h.node
-      ∙ ap (λ (held : List (Option Held)). record (node_after start answer p) { kernel = kernel; held = held }) (sym (holding_end p.ends e start.held));
+      ∙ ap (λ (held : List (Option Held)). record (node_after start answer nobody p) { kernel = kernel; held = held }) (sym (holding_end p.ends e start.held));
   ends = told_more call_end before.ends p.ends e told.ends told_after.ends h.ends ends;
   packets = packets ∙ h.packets;
 }
@@ -63,7 +64,7 @@ net_end_moves parts after told told_after kernel woke e u node ends packets star
 -- nothing has moved
 pub no_ends : (parts : Parts) (told : Told) → Moves parts told parts told (λ p. with_net_ends p [])
 no_ends parts told start answer before p h = record {
-  node = h.node ∙ ap (λ (es : List TaskEnd). node_after start answer (record p { ends = es })) (sym (append-nil p.ends));
+  node = h.node ∙ ap (λ (es : List TaskEnd). node_after start answer nobody (record p { ends = es })) (sym (append-nil p.ends));
   ends = h.ends ∙ ap (λ (es : List TaskEnd). before.ends ++ map call_end es) (sym (append-nil p.ends));
   packets = h.packets;
 }

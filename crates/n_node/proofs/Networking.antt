@@ -9,7 +9,7 @@ use Rattle.it_types.specs.declared.timeout.Tmo.{Tmo}
 use Rattle.it_types.specs.declared.timeout.Tmo.TheVariants as timeouts
 use Rattle.it_types.specs.Requests.{timeout_of}
 use Rattle.it_types.specs.declared.entry.Out as told
-use Rattle.k_core.specs.TimeOuts.{may_wait}
+use Rattle.k_core.specs.Kernel.{may_wait}
 use Rattle.spec_wire.specs.Ipv4.{Ipv4, Reads, refusal, fields_of}
 use Rattle.spec_wire.specs.declared.ipv4.Bad.{Bad}
 use Rattle.spec_wire.proofs.Ipv4Tests.{reads_once, reads_unrefused, reads_otherwise}

@@ -12,10 +12,9 @@ use Rattle.spec_lists.proofs.Firsts.{cases_of_first}
 use Rattle.spec_kernel.specs.declared.outcome.KEnd.{KEnd}
 use Rattle.spec_kernel.specs.PlainKernel.{PlainKernel}
 use Rattle.spec_kernel.specs.Settle.{Outcome}
-use Rattle.spec_kernel.specs.Deadlines.{due}
+use Rattle.spec_kernel.specs.Time.{due}
 use Rattle.spec_kernel.specs.Rows as rows
-use Rattle.spec_kernel.proofs.Settling.{call-last_call, settled-last_call}
-use Rattle.spec_kernel.proofs.Timing.{due-last_call}
+use Rattle.laws_kernel.proofs.Numbers.{call-last_call, tick-last_call, due-last_call}
 use Rattle.spec_net.specs.declared.outcome.NetAnswer.{NetAnswer}
 use Rattle.spec_net.specs.declared.outcome.NetAnswer.TheVariants as answers
 use Rattle.spec_net.specs.declared.outcome.NetEnd.{NetEnd}
@@ -69,10 +68,6 @@ unfolding timed_out
 timed_out_along calls last p h = time_out_along calls last (length p.kernel.waits) p h
 
 -- ---- the events
-
-tick-last_call : (k : PlainKernel) → (rows.tick k).kernel.last_call ≡ k.last_call
-unfolding rows.tick
-tick-last_call k = settled-last_call (rows.quiet (rows.ticked k))
 
 more_kept : (calls more : ℕ) (net : PlainNet) → NetKept calls net → NetKept (calls + more) net
 more_kept calls more net h = record { numbers = more_numbers calls more net.calls h.numbers; routines = h.routines; rest = h.rest }

@@ -8,9 +8,9 @@ use Rattle.spec_lists.proofs.Firsts.{cases_of_first}
 use Rattle.spec_kernel.specs.declared.outcome.KEnd.{KEnd}
 use Rattle.spec_kernel.specs.PlainKernel.{PlainKernel}
 use Rattle.spec_kernel.specs.Settle.{Outcome}
-use Rattle.spec_kernel.specs.Deadlines.{due}
-use Rattle.spec_kernel.proofs.Timing.{due_none, due_shorter}
-use Rattle.k_core.specs.ByTime.{ended_alone}
+use Rattle.spec_kernel.specs.Time.{due}
+use Rattle.laws_kernel.proofs.Timing.{due_none, due_shorter}
+use Rattle.k_core.specs.Kernel.{ended_alone}
 use Rattle.spec_node.specs.PlainNode.{PlainNode}
 use Rattle.spec_node.specs.Progress.{Progress, after_end, after_kernel, time_out, timed_out}
 use Rattle.spec_node.specs.NodeStep.{beginning}

@@ -7,7 +7,7 @@ use Rattle.it_types.specs.declared.answer.Ans.{Ans}
 use Rattle.it_types.specs.declared.entry.Out.{Out}
 use Rattle.it_types.specs.Callers.{nobody}
 use Rattle.spec_kernel.specs.PlainKernel.{PlainKernel}
-use Rattle.spec_kernel.specs.Outside.{blocked, unblocked}
+use Rattle.spec_kernel.specs.Time.{blocked, unblocked}
 use Rattle.spec_net.specs.declared.outcome.NetAnswer.{NetAnswer}
 use Rattle.spec_net.specs.declared.outcome.NetAnswer.TheVariants as net_answers
 use Rattle.spec_net.specs.declared.outcome.NetEnd.{NetEnd}
@@ -21,7 +21,7 @@ use Rattle.n_node.specs.Plain.{plain}
 
 -- the parts, and what is told beyond what was told at the start, are those of a node that began so and will answer this
 pub record Comes (start : PlainNode) (answer : Ans) (before : Told) (p : Progress) (parts : Parts) (told : Told) : Type 0 where
-  pub node : plain parts ≡ node_after start answer p
+  pub node : plain parts ≡ node_after start answer nobody p
   pub ends : told.ends ≡ before.ends ++ map call_end p.ends
   pub packets : told.packs ≡ before.packs ++ p.packets
 

@@ -1,15 +1,18 @@
-ghost use Rattle.std.specs.Prelude.{◌≡◌, ◌≢◌, ◌<◌, ◌≤◌, ◌+◌, ◌-◌, ◌^◌, IfOk};
+ghost use Rattle.std.specs.Prelude.{ℕ, ◌≡◌, ◌≢◌, ◌<◌, ◌≤◌, ◌+◌, ◌-◌, ◌^◌, IfOk};
 ghost use Rattle.it_types.specs.declared.context.Ctx.TheVariants.{Task as InTask};
 ghost use Rattle.spec_node.specs.declared.event.NodeEvent.TheVariants.{Call as Called};
+ghost use Rattle.it_types.specs.declared.kernel_request.KReq.{KReq as AKReq};
 ghost use Rattle.spec_node.specs.PlainNode.{running_in};
+ghost use Rattle.spec_node.specs.Admitted.{SetsInRange};
 ghost use Rattle.spec_node.specs.NodeStep.{node_step, kernel_called, kernel_answer, drawn};
 ghost use Rattle.n_node.specs.Plain.{plain};
 ghost use Rattle.n_node.specs.Kept.{Kept};
 
+use crate::held::forget;
 use crate::told::Turn;
 use crate::{Parts, Told};
 use it_types::{Ans, Bytes, CallNo, Ctx, KReq, NoMemory, Out, Req, TaskId};
-use k_core::KAns;
+use spec_kernel::KAns;
 use std::alloc::Global;
 
 /// The answer of the kernel, as the node tells it: a call that waits has its number there.
@@ -42,6 +45,8 @@ impl Parts {
         requires runs { running_in self.old.kernel ≡ by }
         requires calls { self.old.calls < 2 ^ 31 - 1 }
         requires now { self.old.kernel.clock.now < 2 ^ 59 }
+        requires ranks { self.old.kernel.next_rank < 2 ^ 59 }
+        requires time { SetsInRange request.now }
         ensures { IfOk result (λ o. node_step (plain self.old) (Called (InTask by) request.now) ≡ (plain self.new, o)) }
     {
         match request.kernel() {
@@ -57,6 +62,8 @@ impl Parts {
         requires runs { running_in self.old.kernel ≡ by }
         requires calls { self.old.calls < 2 ^ 31 - 1 }
         requires now { self.old.kernel.clock.now < 2 ^ 59 }
+        requires ranks { self.old.kernel.next_rank < 2 ^ 59 }
+        requires time { (ms : ℕ) → request.now ≡ AKReq.SetTim ms → ms < 2 ^ 63 }
         ensures { IfOk result (λ o. kernel_called (plain self.old) (InTask by) request.now ≡ (plain self.new, o)) }
     {
         let before = self.kernel.running();
@@ -66,6 +73,7 @@ impl Parts {
         self.calls = calls_after(self.calls, &ans);
         let mut told = Told::nothing(alloc);
         self.take_kernel_ends(alloc, &mut told, done.ends.as_slice())?;
+        forget(&mut self.held, done.gone);
         let turn = Turn {
             gone: done.gone,
             begun: done.begun,

@@ -2,8 +2,8 @@
 
 ghost use Rattle.std.specs.Prelude.{◌≡◌, IfOk, None, Some, slice_set};
 ghost use Rattle.spec_lists.specs.Tables.{get, empty_table};
-ghost use Rattle.spec_kernel.specs.PlainKernel.{greatest_id};
-ghost use Rattle.spec_node.specs.NodeStep.{held_answer};
+ghost use Rattle.spec_kernel.specs.Ids.{greatest_id};
+ghost use Rattle.spec_node.specs.NodeStep.{forgetting, held_answer};
 
 use it_types::{Ans, NoMemory, TABLE_PLACES, TaskId};
 use spec_node::Held;
@@ -40,6 +40,15 @@ pub fn hold(held: &mut Vec<Option<Held>>, task: TaskId, answer: Held)
     let place = task.0 as usize;
     if place < held.len() {
         held[place] = Some(answer);
+    }
+}
+
+/// A task that has ended, 0 for none, holds no answer, nor does its next life.
+pub fn forget(held: &mut Vec<Option<Held>>, gone: TaskId)
+    ensures { held.new.items ≡ forgetting gone held.old.items }
+{
+    if gone.0 != 0 {
+        take_answer(held, gone);
     }
 }
 

@@ -2,7 +2,7 @@
 
 ghost use Rattle.std.specs.Prelude.{◌≡◌, ◌≢◌, ◌<◌, ◌≤◌, ◌-◌, ◌+◌, ◌^◌, true, IfOk};
 ghost use Rattle.it_types.specs.declared.context.Ctx.TheVariants.{Task as InTask};
-ghost use Rattle.k_core.specs.TimeOuts.{may_wait};
+ghost use Rattle.k_core.specs.Kernel.{may_wait};
 ghost use Rattle.spec_net.specs.declared.outcome.NetAnswer.TheVariants.{Pends};
 ghost use Rattle.spec_net.specs.PlainNet.{NetOutcome};
 ghost use Rattle.e_udp.specs.Does.{Does};
@@ -31,6 +31,7 @@ impl Parts {
         requires runs { running_in self.old.kernel ≡ by }
         requires calls { self.old.calls < 2 ^ 31 - 1 }
         requires now { self.old.kernel.clock.now < 2 ^ 59 }
+        requires ranks { self.old.kernel.next_rank < 2 ^ 59 }
         ensures { IfOk result (λ o. network_called (plain self.old) (InTask by) request.now ≡ (plain self.new, o)) }
     {
         let number = CallNo(self.calls + 1);
@@ -47,6 +48,7 @@ impl Parts {
         requires waits { answer ≡ Pends → may_wait tmo ≡ true }
         requires calls { self.old.calls < 2 ^ 31 - 1 }
         requires now { self.old.kernel.clock.now < 2 ^ 59 }
+        requires ranks { self.old.kernel.next_rank < 2 ^ 59 }
         ensures answer { result ≡ net_answer (self.old.calls + 1) answer }
         ensures node { plain self.new ≡ record (plain self.old) { kernel = blocked_when answer self.old.kernel by tmo (record { 0 = self.old.calls + 1 }); calls = self.old.calls + drawn result } }
     {
@@ -76,6 +78,7 @@ impl Parts {
         requires waits { out.ans ≡ Pends → may_wait tmo ≡ true }
         requires calls { self.old.calls < 2 ^ 31 - 1 }
         requires now { self.old.kernel.clock.now < 2 ^ 59 }
+        requires ranks { self.old.kernel.next_rank < 2 ^ 59 }
         ensures { IfOk result (λ told. (o : NetOutcome) → Does self.old.udps out o → network_done (plain self.old) o by tmo ≡ (plain self.new, told)) }
     {
         let before = self.kernel.running();

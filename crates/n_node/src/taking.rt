@@ -10,7 +10,7 @@ use crate::held::hold;
 use crate::{Parts, Told};
 use e_udp::NetEnd;
 use it_types::{Bytes, CallEnd, List, NoMemory, TaskId};
-use k_core::KEnd;
+use spec_kernel::KEnd;
 use spec_node::Held;
 use std::alloc::Global;
 
