@@ -11,7 +11,7 @@ use std::alloc::Global;
 use std::marker::Model;
 
 /// The greatest id of a cyclic handler.
-const GREATEST_CYCLIC: u32 = 8;
+pub const GREATEST_CYCLIC: u32 = 8;
 
 /// The ticks of a kernel so far, its system time, and its cyclic handlers by their ids. After its opening it takes no memory.
 #[derive(Debug, Drop)]

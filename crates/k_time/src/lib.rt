@@ -4,4 +4,4 @@
 mod clock;
 mod cyclics;
 
-pub use clock::Clock;
+pub use clock::{Clock, GREATEST_CYCLIC};

@@ -88,5 +88,5 @@ none_stands = record {
 -- at the opening
 pub opened_stands : (conf : KConf) → IsDeclarable conf → IsStanding (opened conf)
 opened_stands conf good =
-    let s = all_stand conf.tasks.tasks no_tasks good.tasks none_stands in
+    let s = all_stand conf.tasks.tasks no_tasks good.tasks.ids none_stands in
     standing_from (opened conf) s.places s.nobody s.good tt
