@@ -12,3 +12,4 @@ pub mod Timing
 pub mod Numbers
 pub mod Room
 pub mod Callers
+pub mod Drawing
