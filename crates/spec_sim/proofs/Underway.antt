@@ -9,7 +9,7 @@ use Rattle.std.proofs.lemmas.List.{append-nil}
 use Rattle.it_types.specs.declared.entry.Entry.{Entry}
 use Rattle.spec_world.specs.Sizes.{entry_size, entry_limit, size_limit, is_full}
 use Rattle.spec_world.specs.History.{is_stop}
-use Rattle.spec_world.proofs.Counts.{room_short}
+use Rattle.spec_world.proofs.Room.{room_short}
 use Rattle.spec_sim.specs.Schedule.{Plan, PlainPlay, next, after}
 use Rattle.spec_sim.specs.Serial.{is_large, run}
 

@@ -1,4 +1,3 @@
-pub mod Events
 pub mod Appending
-pub mod Growth
-pub mod Counts
+pub mod Events
+pub mod Room

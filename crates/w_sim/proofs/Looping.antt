@@ -12,7 +12,7 @@ use Rattle.spec_world.specs.Sizes.{entry_limit, is_full}
 use Rattle.spec_world.specs.History.{is_stop, ends_with_stop, opened_history, world_of}
 use Rattle.spec_world.proofs.Events.{step-ev}
 use Rattle.spec_world.proofs.Appending.{stops_more}
-use Rattle.spec_world.proofs.Counts.{room_short}
+use Rattle.spec_world.proofs.Room.{room_short}
 use Rattle.spec_sim.specs.Schedule.{Plan, PlainPlay, plan_of, first_places, next, after}
 use Rattle.spec_sim.specs.Serial.{run, serial}
 use Rattle.spec_sim.proofs.Underway.{rest, one_more, full_whole, after-entry}

@@ -14,7 +14,8 @@ use Rattle.spec_world.specs.Sizes.{is_full}
 use Rattle.spec_world.specs.History.{History, is_unsent, refusal, stepped, world_of}
 use Rattle.spec_world.proofs.Events.{step-ev}
 use Rattle.spec_world.proofs.Appending.{after_more}
-use Rattle.spec_world.proofs.Counts.{room_short, within_length}
+use Rattle.spec_world.proofs.Room.{room_short}
+use Rattle.laws_world.proofs.Counts.{within_length}
 use Rattle.spec_sim.specs.Schedule.{Plan, PlainPlay, node_0, node_1, is_outstanding, runs, task_event, is_over, idle_event, node_event, next, after}
 use Rattle.spec_sim.proofs.Turns.{next_of_nodes, next_of_first, next_of_second, next_of_none, next_admitted}
 use Rattle.spec_sim.proofs.Underway.{size_more}

@@ -15,7 +15,8 @@ use Rattle.spec_world.specs.Admitted.{is_admitted}
 use Rattle.spec_world.specs.Sizes.{entry_size, is_full}
 use Rattle.spec_world.specs.History.{ends_with_stop, after, Follows, IsRun, History, world_of, refusals, refusal, stepped}
 use Rattle.spec_world.proofs.Appending.{after_more, runs_more}
-use Rattle.spec_world.proofs.Counts.{within_length, room_short}
+use Rattle.spec_world.proofs.Room.{room_short}
+use Rattle.laws_world.proofs.Counts.{within_length}
 use Rattle.w_world.specs.declared.sent.Sent.{Sent}
 use Rattle.w_world.specs.Capped.{capped}
 use Rattle.w_world.specs.Room.{HaveRoom}
