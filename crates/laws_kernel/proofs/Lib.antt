@@ -14,3 +14,4 @@ pub mod Room
 pub mod Callers
 pub mod Drawing
 pub mod OutsideEnds
+pub mod Unpast
