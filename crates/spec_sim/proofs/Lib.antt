@@ -1,3 +1,4 @@
+pub mod SetTimes
 pub mod Declarable
 pub mod Turns
 pub mod Underway
