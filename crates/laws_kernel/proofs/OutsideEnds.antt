@@ -39,7 +39,8 @@ use Rattle.spec_kernel.specs.PlainQueues.{PlainQueues, is_met, handed_bytes}
 use Rattle.spec_kernel.specs.QueueRows.{QueuesDone, unless_refused, other_side, tsnd_dtq_refusals, sends_at_once, sent_to, tsnd_dtq, fsnd_dtq_refusals, forced, fsnd_dtq, trcv_dtq_refusals, received_from, trcv_dtq}
 use Rattle.spec_kernel.specs.PlainKernel.{PlainKernel, is_of, tasks_of, semaphores_of, flags_of, queues_of, with_objects}
 use Rattle.spec_kernel.specs.Settle.{Outcome, is_outside, ending, is_ready, urgency_of, comes_next, next_freed, freed, settle}
-use Rattle.spec_kernel.specs.Rows.{answered, waiting_call, accepted, ended_call, released_end, the_others, done_at_once, done_by_tasks, waits_by_priority, moved, reprioritised, done_by_objects, handed_to, with_handed, done_by_queues, is_a_handlers, priority_in, carried_out, row}
+use Rattle.spec_kernel.specs.Calls.{is_a_handlers}
+use Rattle.spec_kernel.specs.Rows.{answered, waiting_call, accepted, ended_call, released_end, the_others, done_at_once, done_by_tasks, waits_by_priority, moved, reprioritised, done_by_objects, handed_to, with_handed, done_by_queues, priority_in, carried_out, row}
 use Rattle.laws_kernel.proofs.Lists.{found_passes}
 
 -- what a row comes to that is made in this context, under this number
