@@ -77,18 +77,18 @@ module _ {D X : Type 0} (greatest : ℕ) (id_of : D → ℕ) (made : D → X) wh
       ∙ one_more (take n ds) (get_or ds n d) (drop (n + 1) ds) (empty_table greatest) (length-replicate {A = Option X} (greatest + 1) None) nothing_at_first
       ∙ ap (λ before. not (is_old (take n ds) (id_of (get_or ds n d))) && are_new_up_to greatest id_of made (filled id_of made before (empty_table greatest)) (drop (n + 1) ds)) (sym (take_more ds n d inside))
 
-  module _ (ds : List D) (n : ℕ) (d : D) (inside : n < length ds) where
+  module _ (ds : List D) (n id : ℕ) (d : D) (inside : n < length ds) (is : id_of (get_or ds n d) ≡ id) where
     -- the next declaration's id is new
-    pub goes_on : is_no_id greatest (id_of (get_or ds n d)) ≡ false → has (take n ds) (id_of (get_or ds n d)) ≡ false → are_new_behind (n + 1) ds ≡ are_new_behind n ds
-    goes_on right new = sym (at_one ds n d inside ∙ rw (right, new) refl)
+    pub goes_on : is_no_id greatest id ≡ false → has (take n ds) id ≡ false → are_new_behind (n + 1) ds ≡ are_new_behind n ds
+    goes_on right new = sym (at_one ds n d inside ∙ rw (is, right, new) refl)
 
     -- it is out of range
-    pub stops_out_of_range : is_no_id greatest (id_of (get_or ds n d)) ≡ true → are_new_behind n ds ≡ false
-    stops_out_of_range wrong = at_one ds n d inside ∙ rw wrong refl
+    pub stops_out_of_range : is_no_id greatest id ≡ true → are_new_behind n ds ≡ false
+    stops_out_of_range wrong = at_one ds n d inside ∙ rw (is, wrong) refl
 
     -- a declaration before has it
-    pub stops_again : has (take n ds) (id_of (get_or ds n d)) ≡ true → are_new_behind n ds ≡ false
-    stops_again old = at_one ds n d inside ∙ rw (old, or-true (is_no_id greatest (id_of (get_or ds n d)))) refl
+    pub stops_again : has (take n ds) id ≡ true → are_new_behind n ds ≡ false
+    stops_again old = at_one ds n d inside ∙ rw (is, old, or-true (is_no_id greatest id)) refl
 
 -- ---- what stands in the places doesn't count
 
