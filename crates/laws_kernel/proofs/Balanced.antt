@@ -15,7 +15,7 @@ use Rattle.spec_kernel.specs.PlainTasks.{without, to_the_end}
 use Rattle.spec_kernel.specs.PlainKernel.{is_of}
 use Rattle.spec_kernel.specs.Rows.{the_others}
 use Rattle.spec_kernel.specs.Standing.{task_number, waiting_number}
-use Rattle.laws_kernel.proofs.Acting.{SameTasks}
+use Rattle.laws_kernel.specs.Acting.{SameTasks}
 use Rattle.laws_kernel.proofs.Lists.{left_same, left_other, other_task, this_task}
 
 -- a dormant task is neither listed nor waits; an active one is listed, waits with one call, or is suspended and perhaps waits

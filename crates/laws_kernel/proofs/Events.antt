@@ -17,8 +17,8 @@ use Rattle.spec_kernel.specs.Settle.{Outcome, ended, freed, comes_next, next_fre
 use Rattle.spec_kernel.specs.Rows.{row, call}
 use Rattle.spec_kernel.specs.Time.{is_next_past, next_past, by_time, due, blocked, is_outside_of, unblocked}
 use Rattle.laws_kernel.specs.Calling.{Calls}
-use Rattle.laws_kernel.proofs.Acting.Act.{wakes}
-use Rattle.laws_kernel.proofs.Acting.Blocks.{blocks}
+use Rattle.laws_kernel.specs.Acting.Act.{wakes}
+use Rattle.laws_kernel.specs.Acting.Blocks.{blocks}
 use Rattle.laws_kernel.proofs.Standing.{sees_its_wait, running_listed}
 use Rattle.laws_kernel.proofs.RowActs.{pends, Keeps, found_waits, task_act, objects_act, row_holds}
 

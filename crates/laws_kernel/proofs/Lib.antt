@@ -1,5 +1,4 @@
 pub mod Settling
-pub mod Acting
 pub mod Lists
 pub mod Balanced
 pub mod Standing
@@ -15,3 +14,5 @@ pub mod Callers
 pub mod Drawing
 pub mod OutsideEnds
 pub mod Unpast
+pub mod Rising
+pub mod Ranked

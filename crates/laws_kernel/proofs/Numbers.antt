@@ -22,9 +22,9 @@ use Rattle.spec_kernel.specs.Time.{is_next_past, by_time, due, blocked, is_outsi
 use Rattle.spec_kernel.specs.Standing.{IsStanding}
 use Rattle.spec_kernel.specs.Opening.{opened}
 use Rattle.laws_kernel.specs.Calling.{Calls, AllAtMost, AreNumbered}
-use Rattle.laws_kernel.proofs.Acting.{Act, Blocks}
-use Rattle.laws_kernel.proofs.Acting.Act.{stays, wakes, lies_down, begins, suspends, resumes, goes_last, waits_last}
-use Rattle.laws_kernel.proofs.Acting.Blocks.{blocks}
+use Rattle.laws_kernel.specs.Acting.{Act, Blocks}
+use Rattle.laws_kernel.specs.Acting.Act.{stays, wakes, lies_down, begins, suspends, resumes, goes_last, waits_last}
+use Rattle.laws_kernel.specs.Acting.Blocks.{blocks}
 use Rattle.laws_kernel.proofs.Standing.{act_stands, block_stands}
 use Rattle.laws_kernel.proofs.RowActs.{Keeps, pends}
 use Rattle.laws_kernel.proofs.Events.{call_holds}

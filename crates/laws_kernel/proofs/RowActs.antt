@@ -49,9 +49,9 @@ use Rattle.spec_kernel.specs.Rows.{answered, with_wait, accepted, answer_of, end
 use Rattle.spec_kernel.specs.Rows.{reprioritised as moving}
 use Rattle.spec_kernel.specs.Standing.{task_number, IsStanding}
 use Rattle.laws_kernel.specs.Calling.{Calls}
-use Rattle.laws_kernel.proofs.Acting.{SameTasks, laid, Act, Blocks}
-use Rattle.laws_kernel.proofs.Acting.Act.{stays, wakes, lies_down, begins, suspends, resumes, goes_last, waits_last}
-use Rattle.laws_kernel.proofs.Acting.Blocks.{blocks}
+use Rattle.laws_kernel.specs.Acting.{SameTasks, laid, Act, Blocks}
+use Rattle.laws_kernel.specs.Acting.Act.{stays, wakes, lies_down, begins, suspends, resumes, goes_last, waits_last}
+use Rattle.laws_kernel.specs.Acting.Blocks.{blocks}
 use Rattle.laws_kernel.proofs.Lists.{found_passes, this_task, other_task, nobody_changed}
 use Rattle.laws_kernel.proofs.Standing.{sees_its_wait, running_listed}
 

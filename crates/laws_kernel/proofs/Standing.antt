@@ -21,9 +21,9 @@ use Rattle.spec_kernel.specs.PlainKernel.{PlainKernel, is_of, tasks_of, with_tas
 use Rattle.spec_kernel.specs.Settle.{ended}
 use Rattle.spec_kernel.specs.Rows.{with_wait, waiting_call, moved}
 use Rattle.spec_kernel.specs.Standing.{task_number, waits_now, AreRisingTo, IsStanding}
-use Rattle.laws_kernel.proofs.Acting.{SameTasks, laid, Act, Blocks}
-use Rattle.laws_kernel.proofs.Acting.Act.{stays, wakes, lies_down, begins, suspends, resumes, goes_last, waits_last}
-use Rattle.laws_kernel.proofs.Acting.Blocks.{blocks}
+use Rattle.laws_kernel.specs.Acting.{SameTasks, laid, Act, Blocks}
+use Rattle.laws_kernel.specs.Acting.Act.{stays, wakes, lies_down, begins, suspends, resumes, goes_last, waits_last}
+use Rattle.laws_kernel.specs.Acting.Blocks.{blocks}
 use Rattle.laws_kernel.proofs.Lists.{waiting_some, waiting_none, task_waits, no_task_waits, rising_end, rising_found, rising_others, nobody_changed}
 use Rattle.laws_kernel.proofs.Balanced.{AreGood, at_most_once, waiting_active, listed_active, listed_idle, listed_exactly, good_from, stays_good, waits_good_all, ends_good, ends_good_suspended, lies_good, begins_good, suspends_good, resumes_good, goes_last_good, waits_last_good}
 

@@ -1,1 +1,4 @@
 pub mod Calling
+pub mod Acting
+pub mod Rising
+pub mod Ranks
