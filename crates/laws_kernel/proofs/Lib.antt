@@ -16,3 +16,4 @@ pub mod OutsideEnds
 pub mod Unpast
 pub mod Rising
 pub mod Ranked
+pub mod Foremost

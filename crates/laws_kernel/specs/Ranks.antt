@@ -1,6 +1,7 @@
 -- Ranks as numbers, beside the places in the lists of the plain kernel; they are this project's own. The kernel draws a number for each call
 -- that waits, and another where the call is put last. Here a task draws one when it becomes runnable, and when it is put last in order.
-use Rattle.std.specs.Prelude.{◌≡◌, ◌≢◌, ℕ, zero, suc, ◌+◌, Bool, ◌||◌, ◌==◌, nat_lt, List, [], ◌∷◌, Option, Some, None, if◌then◌else◌}
+use Rattle.std.specs.Prelude.{◌≡◌, ◌≢◌, ℕ, ◌<◌, ◌≤◌, zero, suc, ◌+◌, Bool, ◌||◌, ◌==◌, nat_lt, List, [], ◌∷◌, Option, Some, None, if◌then◌else◌}
+use mathlib.Core.Logic.{◌⊎◌}
 use Rattle.it_types.specs.declared.id.TaskId.{TaskId}
 use Rattle.it_types.specs.declared.id.CallNo.{CallNo}
 use Rattle.it_types.specs.declared.conf.KConf.{KConf}
@@ -10,7 +11,8 @@ use Rattle.it_types.specs.declared.kernel_request.KReq.{KReq}
 use Rattle.spec_lists.specs.Tables.{get}
 use Rattle.spec_lists.specs.First.{take_first}
 use Rattle.spec_kernel.specs.declared.reason.WaitingCall.{WaitingCall}
-use Rattle.spec_kernel.specs.TaskBlocks.{is_suspended}
+use Rattle.spec_kernel.specs.declared.task_block.TaskBlock.{TaskBlock}
+use Rattle.spec_kernel.specs.TaskBlocks.{priority_of, is_suspended}
 use Rattle.spec_kernel.specs.PlainTasks.{is_waiting, running}
 use Rattle.spec_kernel.specs.PlainKernel.{PlainKernel, tasks_of}
 use Rattle.spec_kernel.specs.Settle.{Outcome}
@@ -114,6 +116,16 @@ call_rank w = w.rank
 pub record IsOrdered (k : PlainKernel) (r : Ranks) : Type 0 where
   pub tasks : Rises (task_rank r) k.runnable
   pub calls : Rises call_rank k.waits
+
+-- a task comes before another or is the same: it is more urgent, or as urgent and of no greater rank
+abbrev pub ComesFirst : List (Option TaskBlock) → Ranks → TaskId → TaskId → Type 0
+ComesFirst tasks r t u =
+    (priority_of (get tasks t.0) < priority_of (get tasks u.0)) ⊎ ((priority_of (get tasks t.0) ≡ priority_of (get tasks u.0)) × (task_rank r t ≤ task_rank r u))
+
+-- before all of these
+abbrev pub ComesFirstOf : List (Option TaskBlock) → Ranks → TaskId → List TaskId → Type 0
+ComesFirstOf tasks r t [] = Unit {0}
+ComesFirstOf tasks r t (u ∷ us) = ComesFirst tasks r t u × ComesFirstOf tasks r t us
 
 -- before and after each operation: it is done in acts, and in whatever acts it is done
 abbrev pub OrderedAlong : PlainKernel → Ranks → List Operation → Type 0
