@@ -2,7 +2,6 @@ ghost use Rattle.std.specs.Prelude.{ℕ, [], ◌≡◌, ◌≢◌, ◌<◌, ◌^
 ghost use Rattle.std.specs.List.{list_any};
 ghost use Rattle.it_types.specs.declared.context.Ctx.{Ctx as ACtx};
 ghost use Rattle.it_types.specs.declared.id.TaskId.{TaskId as ATaskId};
-ghost use Rattle.it_types.specs.declared.kernel_request.KReq.{KReq as AKReq};
 ghost use Rattle.spec_kernel.specs.declared.outcome.KEnd.{KEnd as AKEnd};
 ghost use Rattle.spec_kernel.specs.TaskBlocks.{is_active};
 ghost use Rattle.spec_kernel.specs.PlainTasks.{running};
@@ -87,7 +86,6 @@ impl Kernel {
         requires number { self.old.last_call < no.0 }
         requires now { self.old.clock.now < 2 ^ 60 }
         requires ranks { self.old.next_rank < 2 ^ 60 }
-        requires time { (ms : ℕ) → req.now ≡ AKReq.SetTim ms → ms < 2 ^ 63 }
         ensures { DoesWhole self.new result (call self.old ctx req.now no) }
     {
         let mut done = self.parts.row(ctx, req, no);

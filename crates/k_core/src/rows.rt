@@ -1,12 +1,12 @@
 //! The rows of the kernel's calls: each part does its part.
 
-ghost use Rattle.std.specs.Prelude.{ℕ, ◌≡◌, ◌<◌, ◌^◌, ◌≤◌, ◌&&◌, [], None, false, length, not};
-ghost use Rattle.it_types.specs.declared.kernel_request.KReq.{KReq as AKReq};
+ghost use Rattle.std.specs.Prelude.{◌≡◌, ◌<◌, ◌^◌, ◌≤◌, ◌&&◌, [], None, false, length, not};
 ghost use Rattle.it_types.specs.Callers.{is_handler, nobody};
 ghost use Rattle.spec_kernel.specs.declared.outcome.KAns.TheVariants.{Now};
 ghost use Rattle.spec_kernel.specs.declared.reason.WaitReason.{WaitReason as AWaitReason};
 ghost use Rattle.spec_kernel.specs.PlainSemaphores.{next_ready as next_at_semaphores};
 ghost use Rattle.spec_kernel.specs.PlainQueues.{next_ready as next_at_queues};
+ghost use Rattle.spec_kernel.specs.PlainClock.{answer_to_time, set_tim};
 ghost use Rattle.spec_kernel.specs.Calls.{is_a_handlers};
 ghost use Rattle.k_core.specs.PartsRows.{carried_out, row};
 ghost use Rattle.k_core.specs.Callers.{MayCall};
@@ -15,8 +15,12 @@ ghost use Rattle.k_core.specs.Does.{Does};
 use crate::Done;
 use crate::done::answered;
 use crate::parts::Parts;
-use it_types::{CallNo, Ctx, E_CTX, E_OK, Er, KReq, ObjId, Small, Tmo};
+use it_types::{CallNo, Ctx, E_CTX, E_OK, E_PAR, Er, KReq, ObjId, Small, Tmo};
+use k_time::Clock;
 use spec_kernel::{FlagWait, KAns, WaitReason};
+
+/// The least system time, in ticks, that can't be set.
+const TIME_LIMIT: u64 = 1 << 63;
 
 /// Whether a handler may make the call.
 fn is_a_handlers(req: &KReq) -> bool
@@ -34,6 +38,18 @@ fn is_a_handlers(req: &KReq) -> bool
         KReq::TsndDtq { tmo, .. } => tmo.is_poll(),
         _ => false,
     }
+}
+
+/// Sets the system time, where it is below 2^63 ticks.
+fn set_tim(clock: &mut Clock, ms: u64) -> Er
+    ensures code { result ≡ answer_to_time ms }
+    ensures clock { clock.new ≡ set_tim clock.old ms }
+{
+    if ms >= TIME_LIMIT {
+        return E_PAR;
+    }
+    clock.set_tim(ms);
+    E_OK
 }
 
 /// The answer of a call with a code alone.
@@ -61,7 +77,6 @@ impl Parts {
         requires caller { MayCall self.old ctx }
         requires now { self.old.clock.now < 2 ^ 60 }
         requires ranks { self.old.tasks.next_rank < 2 ^ 60 }
-        requires time { (ms : ℕ) → req.now ≡ AKReq.SetTim ms → ms < 2 ^ 63 }
         ensures does { Does self.new result (row self.old ctx req.now no) }
         ensures few { length result.ends.items ≤ 1 }
     {
@@ -79,7 +94,6 @@ impl Parts {
         requires caller { MayCall self.old ctx }
         requires now { self.old.clock.now < 2 ^ 60 }
         requires ranks { self.old.tasks.next_rank < 2 ^ 60 }
-        requires time { (ms : ℕ) → req.now ≡ AKReq.SetTim ms → ms < 2 ^ 63 }
         ensures does { Does self.new result (carried_out self.old ctx req.now no) }
         ensures few { length result.ends.items ≤ 1 }
     {
@@ -170,10 +184,7 @@ impl Parts {
                 self.answer_or_hand_over(ctx, synced, WaitReason::Send(dtq, item), Tmo::Pol, no)
             }
             KReq::TrcvDtq { dtq, tmo } => self.trcv_dtq(ctx, dtq, tmo, no),
-            KReq::SetTim { ms } => {
-                self.clock.set_tim(ms);
-                coded(E_OK)
-            }
+            KReq::SetTim { ms } => coded(set_tim(&mut self.clock, ms)),
             KReq::GetTim => answered(KAns::Now(E_OK, Small::of_long(self.clock.get_tim()))),
             KReq::StaCyc { cyc } => coded(self.clock.sta_cyc(cyc)),
             KReq::StpCyc { cyc } => coded(self.clock.stp_cyc(cyc)),

@@ -203,7 +203,7 @@ module _ (k : PlainKernel) (ctx : Ctx) (number : CallNo) where
   carried_out_draws (TsndDtq q item tmo) = handed_draws k _ _ (by_objects_draws k _ ctx _ _ tmo number)
   carried_out_draws (FsndDtq q item) = handed_draws k _ _ (by_objects_draws k _ ctx _ _ timeouts.Pol number)
   carried_out_draws (TrcvDtq q tmo) = handed_draws k _ _ (by_objects_draws k _ ctx _ _ tmo number)
-  carried_out_draws (SetTim ms) = draws_none k _ refl refl
+  carried_out_draws (SetTim ms) = clock_draws k _ _ refl
   carried_out_draws GetTim = same_draws k
   carried_out_draws (StaCyc c) = clock_draws k _ _ refl
   carried_out_draws (StpCyc c) = clock_draws k _ _ refl

@@ -9,6 +9,7 @@ pub mod Opened
 pub mod Resting
 pub mod Timing
 pub mod Numbers
+pub mod LastCalls
 pub mod Room
 pub mod Callers
 pub mod Drawing

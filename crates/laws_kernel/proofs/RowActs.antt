@@ -40,7 +40,7 @@ use Rattle.spec_kernel.specs.TaskRows.{TaskDone, chg_pri, with_code, only_if, be
 use Rattle.spec_kernel.specs.TaskRows.{answered as task_answered, ending as task_ending, unless_refused as unless_task_refused, refused_or as task_refused_or}
 use Rattle.spec_kernel.specs.PlainQueues.{handed_bytes}
 use Rattle.spec_kernel.specs.Waiting.{PlainObjects}
-use Rattle.spec_kernel.specs.PlainClock.{PlainClock, time_set, sta_cyc, stp_cyc}
+use Rattle.spec_kernel.specs.PlainClock.{PlainClock, set_tim, sta_cyc, stp_cyc}
 use Rattle.spec_kernel.specs.PlainClock.{unless_refused as unless_clock_refused}
 use Rattle.spec_kernel.specs.PlainKernel.{PlainKernel, is_of, tasks_of, with_tasks, with_objects}
 use Rattle.spec_kernel.specs.Settle.{Outcome, ended}
@@ -78,7 +78,7 @@ pends Pends = true
 pends (Now code bytes) = false
 pends Quiet = false
 
-answer_doesnt_wait : (ctx : Ctx) (did : Did) → pends (answer_of ctx did) ≡ false
+pub answer_doesnt_wait : (ctx : Ctx) (did : Did) → pends (answer_of ctx did) ≡ false
 answer_doesnt_wait ctx did = of did.gone refl
   where
     of : (o : Option TaskId) → did.gone ≡ o → pends (answer_of ctx did) ≡ false
@@ -370,7 +370,7 @@ module _ {number : CallNo} (P : Bool → PlainKernel → Type 0) (keeps : Keeps 
     carried_out_holds (TsndDtq q item tmo) e = handed_holds _ _ (objects_hold k _ ctx _ (reasons.Send q item) tmo (waiter_listed (TsndDtq q item tmo) tmo e (λ f. f)) p)
     carried_out_holds (FsndDtq q item) e = handed_holds _ _ (objects_hold k _ ctx _ (reasons.Send q item) timeouts.Pol (waiter_listed (FsndDtq q item) timeouts.Pol e (λ f. absurd cc)) p)
     carried_out_holds (TrcvDtq q tmo) e = handed_holds _ _ (objects_hold k _ ctx _ (reasons.Receive q) tmo (waiter_listed (TrcvDtq q tmo) tmo e (λ f. refl)) p)
-    carried_out_holds (SetTim ms) e = clock_act false k (time_set k.clock ms) refl p
+    carried_out_holds (SetTim ms) e = clock_act false k (set_tim k.clock ms) (clock_kept _ _ refl) p
     carried_out_holds GetTim e = p
     carried_out_holds (StaCyc c) e = clock_act false k (sta_cyc k.clock c) (clock_kept _ _ refl) p
     carried_out_holds (StpCyc c) e = clock_act false k (stp_cyc k.clock c) (clock_kept _ _ refl) p

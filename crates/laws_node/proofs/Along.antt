@@ -44,7 +44,7 @@ use Rattle.spec_node.specs.NodeStep.{beginning, node_after, blocked_where, kerne
 use Rattle.spec_node.specs.Admitted.{is_running, is_admitted}
 use Rattle.laws_kernel.specs.Calling.{Calls}
 use Rattle.laws_kernel.proofs.Stands.{blocked_stands}
-use Rattle.laws_kernel.proofs.Numbers.{call-last_call, tick-last_call}
+use Rattle.laws_kernel.proofs.LastCalls.{call-last_call, tick-last_call}
 use Rattle.laws_kernel.proofs.Opened.{opened_stands}
 use Rattle.laws_node.specs.Agreement.{times, AreAbove, AreInOrder, PartsAgree, taken, AgreeAlong, is_outside_call, is_net_call}
 use Rattle.laws_node.proofs.Rising.{AllAbove, AllBelow, Rises, rises_end, below_end, below_more}
@@ -93,7 +93,7 @@ kernel_called_holds n t request calls none h =
     let o : Outcome = kernel_rows.call n.kernel (contexts.Task t) request number in
     let answer : Ans = kernel_answer (n.calls + 1) o.answer in
     done_holds n answer o.gone (after_kernel (beginning n) o) o.kernel.waits
-    (kernel_taken (beginning n) o n.calls (n.calls + drawn answer) h.sound (omega arith) (answer_numbers n.kernel n.calls o h.sound.last (call-last_call n.kernel (contexts.Task t) request number h.sound.stands calls)) tt (call_moves n.kernel (contexts.Task t) request number h.sound.stands calls))
+    (kernel_taken (beginning n) o n.calls (n.calls + drawn answer) h.sound (omega arith) (answer_numbers n.kernel n.calls o h.sound.last (call-last_call n.kernel (contexts.Task t) request number)) tt (call_moves n.kernel (contexts.Task t) request number h.sound.stands calls))
     (holders_grown n.held n.kernel.waits o.kernel.waits t none (call_grows n.kernel (contexts.Task t) request number) h.free)
 
 -- ---- calls of the network part

@@ -14,7 +14,7 @@ use Rattle.spec_kernel.specs.PlainKernel.{PlainKernel}
 use Rattle.spec_kernel.specs.Settle.{Outcome}
 use Rattle.spec_kernel.specs.Time.{due}
 use Rattle.spec_kernel.specs.Rows as rows
-use Rattle.laws_kernel.proofs.Numbers.{call-last_call, tick-last_call, due-last_call}
+use Rattle.laws_kernel.proofs.LastCalls.{call-last_call, tick-last_call, due-last_call}
 use Rattle.spec_net.specs.declared.outcome.NetAnswer.{NetAnswer}
 use Rattle.spec_net.specs.declared.outcome.NetAnswer.TheVariants as answers
 use Rattle.spec_net.specs.declared.outcome.NetEnd.{NetEnd}
@@ -77,7 +77,7 @@ last_within : (k : PlainKernel) (ctx : Ctx) (request : KReq) (calls : ℕ)
     → (rows.call k ctx request (record { 0 = calls + 1 })).kernel.last_call ≤ calls + drawn (kernel_answer (calls + 1) (rows.call k ctx request (record { 0 = calls + 1 })).answer)
 last_within k ctx request calls le = elim (call-last_call k ctx request (record { 0 = calls + 1 })) [
   | inl h ↦ rw (h.0, h.1) (omega arith)
-  | inr h ↦ rw h (omega (arith, le))
+  | inr h ↦ omega (arith, le, h.1)
 ]
 
 net_numbers : (number : ℕ) (answer : NetAnswer) → drawn (net_answer number answer) ≡ net_drawn answer

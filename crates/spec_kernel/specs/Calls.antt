@@ -17,7 +17,7 @@ use Rattle.spec_kernel.specs.PlainTasks.{PlainTasks}
 use Rattle.spec_kernel.specs.PlainSemaphores.{PlainSemaphores}
 use Rattle.spec_kernel.specs.PlainFlags.{PlainFlags}
 use Rattle.spec_kernel.specs.PlainQueues.{PlainQueues}
-use Rattle.spec_kernel.specs.PlainClock.{PlainClock, time_set, answer_on, sta_cyc, stp_cyc}
+use Rattle.spec_kernel.specs.PlainClock.{PlainClock, set_tim, answer_to_time, answer_on, sta_cyc, stp_cyc}
 use Rattle.spec_kernel.specs.TaskRows.{TaskDone, act_tsk, can_act, ext_tsk, ter_tsk, chg_pri, get_pri, tslp_tsk, wup_tsk, can_wup, rel_wai, sus_tsk, rsm_tsk, frsm_tsk, dly_tsk, rot_rdq, get_tid}
 use Rattle.spec_kernel.specs.SemaphoreRows.{SemaphoresDone, sig_sem, twai_sem}
 use Rattle.spec_kernel.specs.FlagRows.{FlagsDone, set_flg, clr_flg, twai_flg}
@@ -81,7 +81,7 @@ row_of ctx (TwaiFlg f bits all tmo) = OnFlags (λ d pri rank. twai_flg d f bits 
 row_of ctx (TsndDtq q item tmo) = OnQueues (λ d pri rank. tsnd_dtq d q item tmo (caller ctx) pri rank) (reasons.Send q item) tmo
 row_of ctx (FsndDtq q item) = OnQueues (λ d pri rank. fsnd_dtq d q item) (reasons.Send q item) timeouts.Pol
 row_of ctx (TrcvDtq q tmo) = OnQueues (λ d pri rank. trcv_dtq d q tmo (caller ctx) pri rank) (reasons.Receive q) tmo
-row_of ctx (SetTim ms) = OnClock (λ c. time_set c ms) (λ c. E_OK) (λ c. [])
+row_of ctx (SetTim ms) = OnClock (λ c. set_tim c ms) (λ c. answer_to_time ms) (λ c. [])
 row_of ctx GetTim = OnClock (λ c. c) (λ c. E_OK) (λ c. eight_bytes c.system)
 row_of ctx (StaCyc id) = OnClock (λ c. sta_cyc c id) (λ c. answer_on c id) (λ c. [])
 row_of ctx (StpCyc id) = OnClock (λ c. stp_cyc c id) (λ c. answer_on c id) (λ c. [])

@@ -4,7 +4,7 @@ use Rattle.std.specs.Prelude.{◌≡◌, ℕ, ◌+◌, Bool, true, false, ◌&&�
 use Rattle.std.specs.List.{list_all}
 use Rattle.it_types.specs.declared.id.ObjId.{ObjId}
 use Rattle.it_types.specs.declared.er.Er.{Er}
-use Rattle.it_types.specs.declared.er.TheConstants.{E_OK, E_ID, E_NOEXS}
+use Rattle.it_types.specs.declared.er.TheConstants.{E_OK, E_PAR, E_ID, E_NOEXS}
 use Rattle.it_types.specs.declared.conf.CycDecl.{CycDecl}
 use Rattle.spec_lists.specs.Tables.{get, change, empty_table, filled}
 use Rattle.spec_lists.specs.Refusal.{first_refusal}
@@ -77,6 +77,16 @@ unless_refused (Some code) c done = c
 -- the code that a call on a handler is answered
 abbrev pub answer_on : PlainClock → ObjId → Er
 answer_on c id = code_of (first_refusal (refusals c id))
+
+-- a time of 2^63 ticks or more isn't set, so that there is room for every tick to come
+abbrev pub time_refusals : ℕ → List (Bool × Er)
+time_refusals ms = (nat_le 9223372036854775808 ms, E_PAR) ∷ []
+
+abbrev pub answer_to_time : ℕ → Er
+answer_to_time ms = code_of (first_refusal (time_refusals ms))
+
+abbrev pub set_tim : PlainClock → ℕ → PlainClock
+set_tim c ms = unless_refused (first_refusal (time_refusals ms)) c (time_set c ms)
 
 abbrev pub sta_cyc : PlainClock → ObjId → PlainClock
 sta_cyc c id = unless_refused (first_refusal (refusals c id)) c (record c { cyclics = change c.cyclics id.0 (changed (started c.now)) })

@@ -241,9 +241,6 @@ fn call(rt: &impl Abort, kernel: &mut Kernel, caller: u32, req: KReq, no: u32) -
         "{no}"
     );
     assert!(rt; kernel.next_rank() < 1 << 60, "{no}");
-    if let KReq::SetTim { ms } = req {
-        assert!(rt; ms < 1 << 63, "{no}");
-    }
     if caller == 0 {
         return kernel.call(Ctx::Handler, &req, CallNo(no));
     }

@@ -16,4 +16,4 @@ returns c =
     = subst (λ (es : List KEnd). Moves middle c.nothing-told.result c.take_kernel_ends.new.self c.take_kernel_ends.new.told (λ p. after_ends p es)) c.as_slice.ensures.value c.in_ok-take_kernel_ends.ensures in
     IfOk-weaker c.out.result _ _
     (λ out is. kernel_told c.args.self.now middle c.take_kernel_ends.new.self (record c.take_kernel_ends.new.self { held = c.forget.new.held }) c.nothing-told.result c.take_kernel_ends.new.told c.args.by c.running-before.result c.running.result c.args.request.now c.call-done.result c.in_ok-ans.ans out
-    c.call-done.ensures c.in_ok-ans.ensures (ap (λ (calls : ℕ). record (plain c.args.self.now) { kernel = c.call-done.new.self; calls = calls }) c.calls_after-self.ensures) moves (ap (λ (held : List (Option Held)). record (plain c.take_kernel_ends.new.self) { held = held }) c.forget.ensures) (record { ends = c.nothing-told.ensures.ends; packets = c.nothing-told.ensures.packets }) c.running-before.ensures c.running.ensures is) c.out.ensures
+    c.call-done.ensures c.in_ok-ans.ensures (ap (λ (calls : ℕ). record (plain c.args.self.now) { kernel = c.call-done.new.self; calls = calls }) c.calls_after-self.ensures) moves (ap (λ (held : List (Option Held)). record (plain c.take_kernel_ends.new.self) { held = held }) c.forget.ensures) (record { ends = c.nothing-told.ensures.ends; packets = c.nothing-told.ensures.packets }) c.running-before.ensures.task c.running.ensures.task is) c.out.ensures
