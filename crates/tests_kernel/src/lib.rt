@@ -10,6 +10,8 @@ mod flags;
 #[cfg(test)]
 mod kernel;
 #[cfg(test)]
+mod opening;
+#[cfg(test)]
 mod semaphores;
 #[cfg(test)]
 mod tasks;
