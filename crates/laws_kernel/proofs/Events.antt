@@ -20,7 +20,8 @@ use Rattle.laws_kernel.specs.Calling.{Calls}
 use Rattle.laws_kernel.specs.Acting.Act.{wakes}
 use Rattle.laws_kernel.specs.Acting.Blocks.{blocks}
 use Rattle.laws_kernel.proofs.Standing.{sees_its_wait, running_listed}
-use Rattle.laws_kernel.proofs.RowActs.{pends, Keeps, found_waits, task_act, objects_act, row_holds}
+use Rattle.laws_kernel.proofs.EachCall.{row_holds}
+use Rattle.laws_kernel.proofs.RowActs.{pends, Keeps, found_waits, task_act, objects_act}
 
 some_is : {o q : Outcome} → Some o ≡ Some q → o ≡ q
 some_is e = cc

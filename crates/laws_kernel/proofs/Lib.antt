@@ -18,3 +18,5 @@ pub mod Unpast
 pub mod Rising
 pub mod Ranked
 pub mod Foremost
+pub mod RowKinds
+pub mod EachCall

@@ -1,7 +1,5 @@
 -- The numbers of the calls that wait in the whole kernel: the last one is that of the call which began to wait last, and none is above it.
-use Rattle.std.proofs.Common.{◌≡◌, ◌≢◌, ℕ, zero, suc, ◌≤◌, Bool, List, [], ◌∷◌, ◌++◌, length, Option, Some, None, refl, ap, sym, ◌∙◌, subst, inl, inr, arith}
-use Rattle.std.specs.Prelude.{if◌then◌else◌}
-use mathlib.Core.Logic.{◌⊎◌}
+use Rattle.std.proofs.Common.{◌≡◌, ℕ, zero, suc, ◌≤◌, Bool, List, [], ◌∷◌, ◌++◌, length, Option, Some, None, refl, ap, sym, ◌∙◌, subst, inl, inr, arith}
 use Rattle.it_types.specs.declared.id.TaskId.{TaskId}
 use Rattle.it_types.specs.declared.id.CallNo.{CallNo}
 use Rattle.it_types.specs.declared.conf.KConf.{KConf}
@@ -10,8 +8,6 @@ use Rattle.it_types.specs.declared.context.Ctx.{Ctx}
 use Rattle.it_types.specs.declared.kernel_request.KReq.{KReq}
 use Rattle.spec_lists.specs.First.{take_first}
 use Rattle.spec_lists.proofs.Firsts.{cases_of_first, some_parts}
-use Rattle.spec_kernel.specs.declared.outcome.KAns.{KAns}
-use Rattle.spec_kernel.specs.declared.outcome.KAns.TheVariants.{Now, Pends, Quiet}
 use Rattle.spec_kernel.specs.declared.reason.WaitReason.{WaitReason}
 use Rattle.spec_kernel.specs.declared.reason.WaitReason.TheVariants as reasons
 use Rattle.spec_kernel.specs.declared.reason.WaitingCall.{WaitingCall}
@@ -26,7 +22,7 @@ use Rattle.laws_kernel.specs.Acting.{Act, Blocks}
 use Rattle.laws_kernel.specs.Acting.Act.{stays, wakes, lies_down, begins, suspends, resumes, goes_last, waits_last}
 use Rattle.laws_kernel.specs.Acting.Blocks.{blocks}
 use Rattle.laws_kernel.proofs.Standing.{act_stands, block_stands}
-use Rattle.laws_kernel.proofs.RowActs.{Keeps, pends}
+use Rattle.laws_kernel.proofs.RowActs.{Keeps}
 use Rattle.laws_kernel.proofs.Events.{call_holds}
 use Rattle.laws_kernel.proofs.Timing.{due_is}
 

@@ -1,6 +1,6 @@
--- Each row of the whole kernel is a few acts and perhaps one new wait, and so is settling. What these keep every event keeps.
-use Rattle.std.proofs.Common.{◌≡◌, ℕ, ◌-◌, ◌≤◌, Bool, true, false, not, ◌&&◌, ◌||◌, List, [], ◌∷◌, length, slice_set, Option, Some, None, is_some, is_none, refl, ap, sym, ◌∙◌, subst, inl, inr, arith}
-use Rattle.std.specs.Prelude.{◌==◌, nat_lt, if◌then◌else◌}
+-- What acts and a new wait keep each kind of row keeps.
+use Rattle.std.proofs.Common.{◌≡◌, ℕ, ◌≤◌, Bool, true, false, not, ◌&&◌, ◌||◌, List, [], ◌∷◌, length, slice_set, Option, Some, None, is_some, is_none, refl, ap, sym, ◌∙◌, subst, inl, inr, arith}
+use Rattle.std.specs.Prelude.{◌==◌, nat_lt}
 use Rattle.std.specs.List.{list_any}
 use Rattle.std.specs.Int.{is_negative}
 use Rattle.std.proofs.lemmas.Bool.{cases_Bool, cases_eq, cases_lt, eqb-true, eq-eqb, and_parts}
@@ -8,15 +8,12 @@ use Rattle.std.proofs.lemmas.List.{get_or-set_same, get_or_past, length-set}
 use Rattle.it_types.specs.declared.id.TaskId.{TaskId}
 use Rattle.it_types.specs.declared.id.CallNo.{CallNo}
 use Rattle.it_types.specs.declared.er.Er.{Er}
-use Rattle.it_types.specs.declared.er.TheConstants.{E_OK, E_CTX}
+use Rattle.it_types.specs.declared.er.TheConstants.{E_OK}
 use Rattle.it_types.specs.declared.timeout.Tmo.{Tmo}
-use Rattle.it_types.specs.declared.timeout.Tmo.TheVariants as timeouts
 use Rattle.it_types.specs.declared.context.Ctx.{Ctx}
 use Rattle.it_types.specs.declared.context.Ctx.TheVariants as contexts
 use Rattle.it_types.specs.declared.synced.Synced.{Synced}
 use Rattle.it_types.specs.declared.synced.Synced.TheVariants.{Took, MustWait, Refused}
-use Rattle.it_types.specs.declared.kernel_request.KReq.{KReq}
-use Rattle.it_types.specs.declared.kernel_request.KReq.TheVariants.{ActTsk, CanAct, ExtTsk, TerTsk, ChgPri, GetPri, TslpTsk, WupTsk, CanWup, RelWai, SusTsk, RsmTsk, FrsmTsk, DlyTsk, RotRdq, GetTid, SigSem, TwaiSem, SetFlg, ClrFlg, TwaiFlg, TsndDtq, FsndDtq, TrcvDtq, SetTim, GetTim, StaCyc, StpCyc}
 use Rattle.it_types.specs.Callers.{is_handler, caller, is_poll}
 use Rattle.spec_lists.specs.Tables.{get, change}
 use Rattle.spec_lists.specs.First.{take_first}
@@ -24,7 +21,6 @@ use Rattle.spec_lists.specs.Refusal.{first_refusal}
 use Rattle.spec_lists.specs.Counting.{times}
 use Rattle.spec_lists.proofs.Changes.{length-change}
 use Rattle.spec_lists.proofs.Firsts.{none_any, some_parts}
-use Rattle.spec_lists.proofs.Refusing.{none_holds}
 use Rattle.spec_kernel.specs.declared.did.Did.{Did}
 use Rattle.spec_kernel.specs.declared.handed.Handed.{Handed}
 use Rattle.spec_kernel.specs.declared.outcome.KAns.{KAns}
@@ -34,39 +30,37 @@ use Rattle.spec_kernel.specs.declared.task_wait.TaskWait.{TaskWait}
 use Rattle.spec_kernel.specs.declared.reason.WaitReason.{WaitReason}
 use Rattle.spec_kernel.specs.declared.reason.WaitReason.TheVariants as reasons
 use Rattle.spec_kernel.specs.declared.reason.WaitingCall.{WaitingCall}
-use Rattle.spec_kernel.specs.TaskBlocks.{changed, wakeups_of, suspensions_of, activations_of, is_active, is_suspended, dormant, with_priority, one_activation_more, one_activation_less, without_activations, one_wakeup_more, one_wakeup_less, without_wakeups}
-use Rattle.spec_kernel.specs.PlainTasks.{is_waiting, is_asleep, is_for_a_wakeup, with_task, is_same, has_priority, last_in_order, released}
-use Rattle.spec_kernel.specs.TaskRows.{TaskDone, chg_pri, with_code, only_if, begun_anew, has_activation, after_end, activated, reprioritised, resumed, rotated_priority, sleeping, waking, named, act_tsk_refusals, can_act_refusals, ter_tsk_refusals, chg_pri_refusals, get_pri_refusals, rot_rdq_refusals, tslp_tsk_refusals, wup_tsk_refusals, can_wup_refusals, rel_wai_refusals, sus_tsk_refusals, rsm_tsk_refusals, tslp_tsk}
+use Rattle.spec_kernel.specs.TaskBlocks.{changed, wakeups_of, activations_of, is_active, is_suspended, dormant, with_priority, one_activation_more, one_activation_less, one_wakeup_more, one_wakeup_less}
+use Rattle.spec_kernel.specs.PlainTasks.{is_waiting, is_asleep, is_for_a_wakeup, with_task, is_same, last_in_order, released}
+use Rattle.spec_kernel.specs.TaskRows.{TaskDone, with_code, only_if, begun_anew, has_activation, after_end, activated, reprioritised, resumed, sleeping, waking, named, tslp_tsk_refusals, tslp_tsk}
 use Rattle.spec_kernel.specs.TaskRows.{answered as task_answered, ending as task_ending, unless_refused as unless_task_refused, refused_or as task_refused_or}
 use Rattle.spec_kernel.specs.PlainQueues.{handed_bytes}
 use Rattle.spec_kernel.specs.Waiting.{PlainObjects}
-use Rattle.spec_kernel.specs.PlainClock.{PlainClock, set_tim, sta_cyc, stp_cyc}
-use Rattle.spec_kernel.specs.PlainClock.{unless_refused as unless_clock_refused}
+use Rattle.spec_kernel.specs.PlainClock.{PlainClock}
 use Rattle.spec_kernel.specs.PlainKernel.{PlainKernel, is_of, tasks_of, with_tasks, with_objects}
 use Rattle.spec_kernel.specs.Settle.{Outcome, ended}
-use Rattle.spec_kernel.specs.Calls.{is_a_handlers}
-use Rattle.spec_kernel.specs.Rows.{answered, with_wait, accepted, answer_of, ended_call, the_others, done_at_once, done_by_tasks, waits_by_priority, moved_unless_refused, done_by_objects, handed_to, with_handed, carried_out, row}
+use Rattle.spec_kernel.specs.Rows.{with_wait, accepted, answer_of, ended_call, the_others, done_at_once, done_by_tasks, waits_by_priority, moved_unless_refused, done_by_objects, handed_to, with_handed}
 use Rattle.spec_kernel.specs.Rows.{reprioritised as moving}
 use Rattle.spec_kernel.specs.Standing.{task_number, IsStanding}
 use Rattle.laws_kernel.specs.Calling.{Calls}
 use Rattle.laws_kernel.specs.Acting.{SameTasks, laid, Act, Blocks}
-use Rattle.laws_kernel.specs.Acting.Act.{stays, wakes, lies_down, begins, suspends, resumes, goes_last, waits_last}
+use Rattle.laws_kernel.specs.Acting.Act.{stays, wakes, lies_down, begins, resumes, goes_last, waits_last}
 use Rattle.laws_kernel.specs.Acting.Blocks.{blocks}
 use Rattle.laws_kernel.proofs.Lists.{found_passes, this_task, other_task, nobody_changed}
 use Rattle.laws_kernel.proofs.Standing.{sees_its_wait, running_listed}
 
 -- ---- who calls
 
-caller_listed : (k : PlainKernel) (ctx : Ctx) → Calls k ctx → is_handler ctx ≡ false → 1 ≤ times task_number (caller ctx).0 k.runnable
+pub caller_listed : (k : PlainKernel) (ctx : Ctx) → Calls k ctx → is_handler ctx ≡ false → 1 ≤ times task_number (caller ctx).0 k.runnable
 caller_listed k contexts.Handler calls e = cc
 caller_listed k (contexts.Task t) calls e = let it = calls t refl in running_listed (tasks_of k) t it.0 it.1
 
-not_handler : (a b : Bool) → (a && not b) ≡ false → b ≡ false → a ≡ false
+pub not_handler : (a b : Bool) → (a && not b) ≡ false → b ≡ false → a ≡ false
 not_handler true false e f = absurd cc
 not_handler true true e f = absurd cc
 not_handler false b e f = refl
 
-not_false : (b : Bool) → not b ≡ false → b ≡ true
+pub not_false : (b : Bool) → not b ≡ false → b ≡ true
 not_false true e = refl
 not_false false e = cc
 
@@ -175,12 +169,12 @@ module _ {number : CallNo} (P : Bool → PlainKernel → Type 0) (keeps : Keeps 
   pub objects_act : (b : Bool) (k : PlainKernel) (objects : PlainObjects) → P b k → P b (with_objects k objects)
   objects_act b k objects p = keeps.act b k (with_objects k objects) (stays (same_tasks k.tasks) refl refl refl refl refl) p
 
-  clock_act : (b : Bool) (k : PlainKernel) (clock : PlainClock) → clock.now ≡ k.clock.now → P b k → P b (record k { clock = clock })
+  pub clock_act : (b : Bool) (k : PlainKernel) (clock : PlainClock) → clock.now ≡ k.clock.now → P b k → P b (record k { clock = clock })
   clock_act b k clock e p = keeps.act b k (record k { clock = clock }) (stays (same_tasks k.tasks) refl refl refl refl e) p
 
   -- ---- waiting
 
-  accepted_holds : (k : PlainKernel) (t : TaskId) (reason : WaitReason) (tmo : Tmo) → (is_poll tmo ≡ false → 1 ≤ times task_number t.0 k.runnable) → P false k → Holds (accepted k t reason tmo number)
+  pub accepted_holds : (k : PlainKernel) (t : TaskId) (reason : WaitReason) (tmo : Tmo) → (is_poll tmo ≡ false → 1 ≤ times task_number t.0 k.runnable) → P false k → Holds (accepted k t reason tmo number)
   accepted_holds k t reason tmo listed p = elim (cases_Bool (is_poll tmo)) [
     | inl e ↦ rw e p
     | inr e ↦ rw e (keeps.block k (with_wait k t reason tmo number) (blocks t reason tmo (listed e) refl) p)
@@ -189,10 +183,10 @@ module _ {number : CallNo} (P : Bool → PlainKernel → Type 0) (keeps : Keeps 
   -- ---- calls on tasks
 
   -- a call that is done at once
-  at_once_holds : (k : PlainKernel) (ctx : Ctx) (done : TaskDone) → P false (done_at_once k ctx done).kernel → Holds (done_at_once k ctx done)
+  pub at_once_holds : (k : PlainKernel) (ctx : Ctx) (done : TaskDone) → P false (done_at_once k ctx done).kernel → Holds (done_at_once k ctx done)
   at_once_holds k ctx done p = subst (λ b. P b (done_at_once k ctx done).kernel) (sym (answer_doesnt_wait ctx done.did)) p
 
-  refused_holds : (k : PlainKernel) (ctx : Ctx) (tests : List (Bool × Er)) (done : TaskDone)
+  pub refused_holds : (k : PlainKernel) (ctx : Ctx) (tests : List (Bool × Er)) (done : TaskDone)
       → P false k
       → (first_refusal tests ≡ None → Holds (done_at_once k ctx done))
       → Holds (done_at_once k ctx (task_refused_or tests (tasks_of k) done))
@@ -202,7 +196,7 @@ module _ {number : CallNo} (P : Bool → PlainKernel → Type 0) (keeps : Keeps 
       of None e = carried e
       of (Some code) e = p
 
-  activated_holds : (k : PlainKernel) (ctx : Ctx) (t : TaskId) → is_none (get k.tasks t.0) ≡ false → P false k → Holds (done_at_once k ctx (activated (tasks_of k) t))
+  pub activated_holds : (k : PlainKernel) (ctx : Ctx) (t : TaskId) → is_none (get k.tasks t.0) ≡ false → P false k → Holds (done_at_once k ctx (activated (tasks_of k) t))
   activated_holds k ctx t known p = elim (cases_Bool (is_active (get k.tasks t.0))) [
     | inl a ↦ rw a (task_act false k t one_activation_more (λ x. refl) (λ x. refl) p)
     | inr a ↦ (let x = there (get k.tasks t.0) known in rw a (keeps.act false k (with_tasks k (begun_anew (tasks_of k) t)) (begins t x.0 x.1 (sym (ap is_active x.1) ∙ a) refl) p))
@@ -216,7 +210,7 @@ module _ {number : CallNo} (P : Bool → PlainKernel → Type 0) (keeps : Keeps 
       (task_act false k t one_activation_less (λ x. refl) (λ x. refl) p)
 
   -- a task ends
-  ending_holds : (k : PlainKernel) (ctx : Ctx) (t : TaskId) → P false k → Holds (done_at_once k ctx (task_ending (tasks_of k) t))
+  pub ending_holds : (k : PlainKernel) (ctx : Ctx) (t : TaskId) → P false k → Holds (done_at_once k ctx (task_ending (tasks_of k) t))
   ending_holds k ctx t p = at_once_holds k ctx (task_ending (tasks_of k) t) (subst (λ ws. P false (record (with_tasks k (after_end (tasks_of k) t)) { waits = ws })) (sym left) (ended_so (has_activation (tasks_of k) t) refl))
     where
       s : IsStanding k
@@ -248,7 +242,7 @@ module _ {number : CallNo} (P : Bool → PlainKernel → Type 0) (keeps : Keeps 
       ended_so false e = rw e lying
 
   -- a task has a new priority, and a new place in order
-  reprioritised_holds : (k : PlainKernel) (ctx : Ctx) (t : TaskId) (n : ℕ) → P false k → Holds (done_at_once k ctx (reprioritised (tasks_of k) t n))
+  pub reprioritised_holds : (k : PlainKernel) (ctx : Ctx) (t : TaskId) (n : ℕ) → P false k → Holds (done_at_once k ctx (reprioritised (tasks_of k) t n))
   reprioritised_holds k ctx t n p =
       let m : PlainKernel = with_tasks k (with_task (tasks_of k) t (with_priority n)) in
       keeps.act false m (with_tasks m (last_in_order (is_same t) (tasks_of m))) (goes_last (is_same t) refl) (task_act false k t (with_priority n) (λ x. refl) (λ x. refl) p)
@@ -260,14 +254,14 @@ module _ {number : CallNo} (P : Bool → PlainKernel → Type 0) (keeps : Keeps 
     | inr e ↦ rw e (keeps.act b k _ (waits_last (waits_by_priority k t) refl) p)
   ]
 
-  moved_after : (k : PlainKernel) (ctx : Ctx) (t : TaskId) (done : TaskDone) → Holds (done_at_once k ctx done) → Holds (moving k ctx t done)
+  pub moved_after : (k : PlainKernel) (ctx : Ctx) (t : TaskId) (done : TaskDone) → Holds (done_at_once k ctx done) → Holds (moving k ctx t done)
   moved_after k ctx t done p = moved_holds (pends (answer_of ctx done.did)) (done_at_once k ctx done).kernel done.did.code (named ctx t) p
 
-  order_holds : (k : PlainKernel) (ctx : Ctx) (f : TaskId → Bool) → P false k → Holds (done_at_once k ctx (task_answered (last_in_order f (tasks_of k)) E_OK))
+  pub order_holds : (k : PlainKernel) (ctx : Ctx) (f : TaskId → Bool) → P false k → Holds (done_at_once k ctx (task_answered (last_in_order f (tasks_of k)) E_OK))
   order_holds k ctx f p = keeps.act false k (with_tasks k (last_in_order f (tasks_of k))) (goes_last f refl) p
 
   -- a sleeper that is woken goes on waiting until it is met
-  waking_holds : (k : PlainKernel) (ctx : Ctx) (t : TaskId) → P false k → Holds (done_at_once k ctx (waking (tasks_of k) t))
+  pub waking_holds : (k : PlainKernel) (ctx : Ctx) (t : TaskId) → P false k → Holds (done_at_once k ctx (waking (tasks_of k) t))
   waking_holds k ctx t p = subst (λ ws. P false (record (with_tasks k (with_task (tasks_of k) t one_wakeup_more)) { waits = ws })) (sym left) (task_act false k t one_wakeup_more (λ x. refl) (λ x. refl) p)
     where
       waits_on : (o : Option TaskWait) → is_for_a_wakeup o ≡ true → is_some o ≡ true
@@ -282,7 +276,7 @@ module _ {number : CallNo} (P : Bool → PlainKernel → Type 0) (keeps : Keeps 
           of false e = refl
 
   -- a task that waits is released
-  released_holds : (k : PlainKernel) (ctx : Ctx) (t : TaskId) → is_waiting (tasks_of k) t ≡ true → P false k → Holds (done_at_once k ctx (record { tasks = released (tasks_of k) t; did = record (with_code E_OK) { freed = Some t } }))
+  pub released_holds : (k : PlainKernel) (ctx : Ctx) (t : TaskId) → is_waiting (tasks_of k) t ≡ true → P false k → Holds (done_at_once k ctx (record { tasks = released (tasks_of k) t; did = record (with_code E_OK) { freed = Some t } }))
   released_holds k ctx t waits p = of (take_first (is_of t.0) k.waits) refl
     where
       no_wait : is_waiting (released (tasks_of k) t) t ≡ false
@@ -300,14 +294,14 @@ module _ {number : CallNo} (P : Bool → PlainKernel → Type 0) (keeps : Keeps 
           let done : P false (ended k z.0 z.1) = keeps.act false k (ended k z.0 z.1) (wakes (is_of t.0) z e refl) p in
           subst (λ ws. P false (record (with_tasks k (released (tasks_of k) t)) { waits = ws })) (sym left) (subst (λ u. P false (record (with_tasks k (released (tasks_of k) u)) { waits = z.1 })) its done)
 
-  resumed_holds : (k : PlainKernel) (ctx : Ctx) (t : TaskId) (left : ℕ) → not (is_active (get k.tasks t.0) && is_suspended (get k.tasks t.0)) ≡ false → P false k → Holds (done_at_once k ctx (task_answered (resumed (tasks_of k) t left) E_OK))
+  pub resumed_holds : (k : PlainKernel) (ctx : Ctx) (t : TaskId) (left : ℕ) → not (is_active (get k.tasks t.0) && is_suspended (get k.tasks t.0)) ≡ false → P false k → Holds (done_at_once k ctx (task_answered (resumed (tasks_of k) t left) E_OK))
   resumed_holds k ctx t left e p =
       let both = and_parts (is_active (get k.tasks t.0)) (is_suspended (get k.tasks t.0)) (not_false _ e) in
       keeps.act false k (with_tasks k (resumed (tasks_of k) t left)) (resumes t left both.0 both.1 refl) p
 
   -- ---- calls that may wait
 
-  sleeping_holds : (k : PlainKernel) (ctx : Ctx) (tmo : Tmo) → (is_poll tmo ≡ false → 1 ≤ times task_number (caller ctx).0 k.runnable) → P false k → Holds (done_by_tasks k ctx (tslp_tsk (tasks_of k) ctx tmo) reasons.Sleep tmo number)
+  pub sleeping_holds : (k : PlainKernel) (ctx : Ctx) (tmo : Tmo) → (is_poll tmo ≡ false → 1 ≤ times task_number (caller ctx).0 k.runnable) → P false k → Holds (done_by_tasks k ctx (tslp_tsk (tasks_of k) ctx tmo) reasons.Sleep tmo number)
   sleeping_holds k ctx tmo listed p = of (first_refusal (tslp_tsk_refusals tmo)) refl
     where
       of : (o : Option Er) → first_refusal (tslp_tsk_refusals tmo) ≡ o → Holds (done_by_tasks k ctx (unless_task_refused o (tasks_of k) (sleeping (tasks_of k) (caller ctx) tmo)) reasons.Sleep tmo number)
@@ -317,7 +311,7 @@ module _ {number : CallNo} (P : Bool → PlainKernel → Type 0) (keeps : Keeps 
         | inr asleep ↦ rw asleep (accepted_holds k (caller ctx) reasons.Sleep tmo listed p)
       ]
 
-  objects_hold : (k : PlainKernel) (objects : PlainObjects) (ctx : Ctx) (synced : Synced) (reason : WaitReason) (tmo : Tmo)
+  pub objects_hold : (k : PlainKernel) (objects : PlainObjects) (ctx : Ctx) (synced : Synced) (reason : WaitReason) (tmo : Tmo)
       → (is_poll tmo ≡ false → 1 ≤ times task_number (caller ctx).0 k.runnable)
       → P false k
       → Holds (done_by_objects k (with_objects k objects) ctx synced reason tmo number)
@@ -326,59 +320,10 @@ module _ {number : CallNo} (P : Bool → PlainKernel → Type 0) (keeps : Keeps 
   objects_hold k objects ctx (Refused code) reason tmo listed p = p
 
   -- and the call of another ends by it
-  handed_holds : (o : Outcome) (h : Option Handed) → Holds o → Holds (with_handed o h)
+  pub handed_holds : (o : Outcome) (h : Option Handed) → Holds o → Holds (with_handed o h)
   handed_holds o None p = p
   handed_holds o (Some h) p = of (take_first (is_of h.task.0) o.kernel.waits) refl
     where
       of : (z : Option (WaitingCall × List WaitingCall)) → take_first (is_of h.task.0) o.kernel.waits ≡ z → Holds (handed_to o (handed_bytes h.item) z)
       of None e = p
       of (Some z) e = keeps.act (pends o.answer) o.kernel (ended o.kernel z.0 z.1) (wakes (is_of h.task.0) z e refl) p
-
-  -- ---- the calls, a line each
-
-  module _ (k : PlainKernel) (ctx : Ctx) (calls : Calls k ctx) (p : P false k) where
-    -- a handler doesn't wait
-    waiter_listed : (request : KReq) (tmo : Tmo) → (is_handler ctx && not (is_a_handlers request)) ≡ false → (is_poll tmo ≡ false → is_a_handlers request ≡ false) → is_poll tmo ≡ false → 1 ≤ times task_number (caller ctx).0 k.runnable
-    waiter_listed request tmo e tasks_alone waits = caller_listed k ctx calls (not_handler (is_handler ctx) (is_a_handlers request) e (tasks_alone waits))
-
-    clock_kept : (o : Option Er) (c : PlainClock) → c.now ≡ k.clock.now → (unless_clock_refused o k.clock c).now ≡ k.clock.now
-    clock_kept None c e = e
-    clock_kept (Some code) c e = refl
-
-    carried_out_holds : (request : KReq) → (is_handler ctx && not (is_a_handlers request)) ≡ false → Holds (carried_out k ctx request number)
-    carried_out_holds (ActTsk t) e = refused_holds k ctx (act_tsk_refusals (tasks_of k) ctx t) _ p (λ n. activated_holds k ctx (named ctx t) (none_holds (act_tsk_refusals (tasks_of k) ctx t) n).1.0 p)
-    carried_out_holds (CanAct t) e = refused_holds k ctx (can_act_refusals (tasks_of k) ctx t) _ p (λ n. task_act false k (named ctx t) without_activations (λ x. refl) (λ x. refl) p)
-    carried_out_holds ExtTsk e = ending_holds k ctx (caller ctx) p
-    carried_out_holds (TerTsk t) e = refused_holds k ctx (ter_tsk_refusals (tasks_of k) ctx t) _ p (λ n. ending_holds k ctx (named ctx t) p)
-    carried_out_holds (ChgPri t n) e = moved_after k ctx t (chg_pri (tasks_of k) ctx t n) (refused_holds k ctx (chg_pri_refusals (tasks_of k) ctx t n) (reprioritised (tasks_of k) (named ctx t) n) p (λ a. reprioritised_holds k ctx (named ctx t) n p))
-    carried_out_holds (GetPri t) e = refused_holds k ctx (get_pri_refusals (tasks_of k) ctx t) _ p (λ n. p)
-    carried_out_holds (TslpTsk tmo) e = sleeping_holds k ctx tmo (waiter_listed (TslpTsk tmo) tmo e (λ f. refl)) p
-    carried_out_holds (WupTsk t) e = refused_holds k ctx (wup_tsk_refusals (tasks_of k) ctx t) _ p (λ n. waking_holds k ctx (named ctx t) p)
-    carried_out_holds (CanWup t) e = refused_holds k ctx (can_wup_refusals (tasks_of k) ctx t) _ p (λ n. task_act false k (named ctx t) without_wakeups (λ x. refl) (λ x. refl) p)
-    carried_out_holds (RelWai t) e = refused_holds k ctx (rel_wai_refusals (tasks_of k) ctx t) _ p (λ n. released_holds k ctx (named ctx t) (not_false _ (none_holds (rel_wai_refusals (tasks_of k) ctx t) n).1.1.0) p)
-    carried_out_holds (SusTsk t) e = refused_holds k ctx (sus_tsk_refusals (tasks_of k) ctx t) _ p (λ n. keeps.act false k _ (suspends (named ctx t) refl) p)
-    carried_out_holds (RsmTsk t) e = refused_holds k ctx (rsm_tsk_refusals (tasks_of k) ctx t) _ p (λ n. resumed_holds k ctx (named ctx t) (suspensions_of (get k.tasks (named ctx t).0) - 1) (none_holds (rsm_tsk_refusals (tasks_of k) ctx t) n).1.1.0 p)
-    carried_out_holds (FrsmTsk t) e = refused_holds k ctx (rsm_tsk_refusals (tasks_of k) ctx t) _ p (λ n. resumed_holds k ctx (named ctx t) 0 (none_holds (rsm_tsk_refusals (tasks_of k) ctx t) n).1.1.0 p)
-    carried_out_holds (DlyTsk ticks) e = accepted_holds k (caller ctx) reasons.Delay (timeouts.Ms ticks) (waiter_listed (DlyTsk ticks) (timeouts.Ms ticks) e (λ f. refl)) p
-    carried_out_holds (RotRdq n) e = refused_holds k ctx (rot_rdq_refusals ctx n) _ p (λ a. order_holds k ctx (has_priority k.tasks (rotated_priority (tasks_of k) ctx n)) p)
-    carried_out_holds GetTid e = p
-    carried_out_holds (SigSem s) e = objects_hold k _ ctx _ (reasons.Semaphore s) timeouts.Pol (waiter_listed (SigSem s) timeouts.Pol e (λ f. absurd cc)) p
-    carried_out_holds (TwaiSem s tmo) e = objects_hold k _ ctx _ (reasons.Semaphore s) tmo (waiter_listed (TwaiSem s tmo) tmo e (λ f. refl)) p
-    carried_out_holds (SetFlg f bits) e = objects_hold k _ ctx _ _ timeouts.Pol (waiter_listed (SetFlg f bits) timeouts.Pol e (λ f. absurd cc)) p
-    carried_out_holds (ClrFlg f bits) e = objects_hold k _ ctx _ _ timeouts.Pol (waiter_listed (ClrFlg f bits) timeouts.Pol e (λ f. absurd cc)) p
-    carried_out_holds (TwaiFlg f bits all tmo) e = objects_hold k _ ctx _ _ tmo (waiter_listed (TwaiFlg f bits all tmo) tmo e (λ f. refl)) p
-    carried_out_holds (TsndDtq q item tmo) e = handed_holds _ _ (objects_hold k _ ctx _ (reasons.Send q item) tmo (waiter_listed (TsndDtq q item tmo) tmo e (λ f. f)) p)
-    carried_out_holds (FsndDtq q item) e = handed_holds _ _ (objects_hold k _ ctx _ (reasons.Send q item) timeouts.Pol (waiter_listed (FsndDtq q item) timeouts.Pol e (λ f. absurd cc)) p)
-    carried_out_holds (TrcvDtq q tmo) e = handed_holds _ _ (objects_hold k _ ctx _ (reasons.Receive q) tmo (waiter_listed (TrcvDtq q tmo) tmo e (λ f. refl)) p)
-    carried_out_holds (SetTim ms) e = clock_act false k (set_tim k.clock ms) (clock_kept _ _ refl) p
-    carried_out_holds GetTim e = p
-    carried_out_holds (StaCyc c) e = clock_act false k (sta_cyc k.clock c) (clock_kept _ _ refl) p
-    carried_out_holds (StpCyc c) e = clock_act false k (stp_cyc k.clock c) (clock_kept _ _ refl) p
-
-    -- each row keeps what acts keep
-    pub row_holds : (request : KReq) → Holds (row k ctx request number)
-    row_holds request = of (is_handler ctx && not (is_a_handlers request)) refl
-      where
-        of : (b : Bool) → (is_handler ctx && not (is_a_handlers request)) ≡ b → Holds (if b then answered k E_CTX else carried_out k ctx request number)
-        of true e = p
-        of false e = carried_out_holds request e

@@ -15,7 +15,8 @@ use Rattle.spec_kernel.specs.Time.{due, blocked, unblocked}
 use Rattle.spec_kernel.specs.Standing.{IsStanding}
 use Rattle.laws_kernel.specs.Calling.{Calls}
 use Rattle.laws_kernel.proofs.Standing.{act_stands, block_stands}
-use Rattle.laws_kernel.proofs.RowActs.{Keeps, row_holds}
+use Rattle.laws_kernel.proofs.EachCall.{row_holds}
+use Rattle.laws_kernel.proofs.RowActs.{Keeps}
 use Rattle.laws_kernel.proofs.Events.{freed_holds, settled_holds, call_holds, due_holds, blocked_holds, unblocked_holds}
 
 no_number : CallNo
