@@ -11,7 +11,7 @@ use Rattle.spec_kernel.specs.Time.{due}
 use Rattle.spec_net.specs.declared.outcome.NetEnd.{NetEnd}
 use Rattle.spec_net.specs.NetEnds.{ended}
 use Rattle.spec_node.specs.Progress.{TaskEnd, Progress, kernel_end, net_end, after_net, after_end, after_ends, after_kernel, time_out, timed_out}
-use Rattle.laws_kernel.proofs.Numbers.{due-last_call}
+use Rattle.laws_kernel.proofs.LastCalls.{due-last_call}
 use Rattle.laws_kernel.proofs.OutsideEnds.{AreInside}
 use Rattle.laws_node.specs.Agreement.{times_waiting, is_outside_call}
 use Rattle.laws_node.proofs.Rising.{below_more}
