@@ -12,8 +12,13 @@ use Rattle.spec_lists.specs.Tables.{get}
 use Rattle.spec_lists.proofs.Refusing.{none_holds}
 use Rattle.spec_kernel.specs.TaskBlocks.{suspensions_of, without_activations, without_wakeups}
 use Rattle.spec_kernel.specs.PlainTasks.{has_priority}
-use Rattle.spec_kernel.specs.TaskRows.{named, rotated_priority, act_tsk_refusals, can_act_refusals, ter_tsk_refusals, get_pri_refusals, rot_rdq_refusals, wup_tsk_refusals, can_wup_refusals, rel_wai_refusals, sus_tsk_refusals, rsm_tsk_refusals}
-use Rattle.spec_kernel.specs.PlainKernel.{PlainKernel, tasks_of}
+use Rattle.spec_kernel.specs.TaskRows.{named, rotated_priority, act_tsk_refusals, can_act_refusals, ter_tsk_refusals, chg_pri_refusals, get_pri_refusals, rot_rdq_refusals, wup_tsk_refusals, can_wup_refusals, rel_wai_refusals, sus_tsk_refusals, rsm_tsk_refusals}
+use Rattle.spec_kernel.specs.declared.reason.FlagWait.{FlagWait}
+use Rattle.spec_kernel.specs.FlagBlocks.{with_bits, only_bits}
+use Rattle.spec_kernel.specs.SemaphoreRows.{sig_sem_refusals, twai_sem_refusals}
+use Rattle.spec_kernel.specs.FlagRows.{set_flg_refusals, twai_flg_refusals}
+use Rattle.spec_kernel.specs.QueueRows.{tsnd_dtq_refusals, fsnd_dtq_refusals, trcv_dtq_refusals}
+use Rattle.spec_kernel.specs.PlainKernel.{PlainKernel, tasks_of, semaphores_of, flags_of, queues_of}
 use Rattle.spec_kernel.specs.Calls.{is_a_handlers}
 use Rattle.spec_kernel.specs.Rows.{carried_out, row}
 use Rattle.spec_kernel.specs.Standing.{IsStanding}
@@ -24,9 +29,9 @@ use Rattle.k_core.proofs.RowsAgreeSeen.{told}
 use Rattle.k_core.proofs.RowsAgreeTasks.{refused_agrees}
 use Rattle.k_core.proofs.RowsAgreeTaskCalls.{task_agrees, order_agrees, suspended_agrees, resumed_agrees, activated_agrees, waking_agrees, released_agrees, ending_agrees}
 use Rattle.k_core.proofs.RowsAgreeWaits.{CanWait, sleeping_agrees, delayed_agrees}
-use Rattle.k_core.proofs.RowsAgreeObjects.{sig_sem_agrees, twai_sem_agrees, set_flg_agrees, clr_flg_agrees, twai_flg_agrees}
-use Rattle.k_core.proofs.RowsAgreeQueues.{tsnd_dtq_agrees, fsnd_dtq_agrees, trcv_dtq_agrees}
-use Rattle.k_core.proofs.RowsAgreePriority.{chg_pri_agrees}
+use Rattle.k_core.proofs.RowsAgreeObjects.{with_bits_ordered, only_bits_ordered, signalled_agrees, count_asked_agrees, pattern_changed_agrees, pattern_asked_agrees}
+use Rattle.k_core.proofs.RowsAgreeQueues.{sent_agrees, forced_agrees, received_agrees}
+use Rattle.k_core.proofs.RowsAgreePriority.{reprioritised_agrees}
 
 not_false : (b : Bool) → not b ≡ false → b ≡ true
 not_false true e = refl
@@ -47,7 +52,7 @@ module _ (k : PlainKernel) (ctx : Ctx) (number : CallNo) (s : IsStanding k) (cal
   carried_out_agrees (CanAct t) e = (refused_agrees k s ctx (can_act_refusals (tasks_of k) ctx t) _ (λ n. task_agrees k s ctx (named ctx t) without_activations _ refl (λ x. refl))).same
   carried_out_agrees ExtTsk e = (ending_agrees k s ctx (caller ctx)).same
   carried_out_agrees (TerTsk t) e = (refused_agrees k s ctx (ter_tsk_refusals (tasks_of k) ctx t) _ (λ n. ending_agrees k s ctx (named ctx t))).same
-  carried_out_agrees (ChgPri t n) e = chg_pri_agrees k s ctx t n
+  carried_out_agrees (ChgPri t n) e = reprioritised_agrees k s ctx t n (chg_pri_refusals (tasks_of k) ctx t n)
   carried_out_agrees (GetPri t) e = (refused_agrees k s ctx (get_pri_refusals (tasks_of k) ctx t) _ (λ n. record { same = refl })).same
   carried_out_agrees (TslpTsk tmo) e = (sleeping_agrees k s ctx tmo number (task_calls (TslpTsk tmo) e refl)).same
   carried_out_agrees (WupTsk t) e = (refused_agrees k s ctx (wup_tsk_refusals (tasks_of k) ctx t) _ (λ n. waking_agrees k s ctx (named ctx t))).same
@@ -59,14 +64,14 @@ module _ (k : PlainKernel) (ctx : Ctx) (number : CallNo) (s : IsStanding k) (cal
   carried_out_agrees (DlyTsk ticks) e = (delayed_agrees k s ctx ticks number (task_calls (DlyTsk ticks) e refl)).same
   carried_out_agrees (RotRdq n) e = (refused_agrees k s ctx (rot_rdq_refusals ctx n) _ (λ a. order_agrees k s ctx (has_priority k.tasks (rotated_priority (tasks_of k) ctx n)))).same
   carried_out_agrees GetTid e = refl
-  carried_out_agrees (SigSem x) e = (sig_sem_agrees k s ctx number x timeouts.Pol).same
-  carried_out_agrees (TwaiSem x tmo) e = (twai_sem_agrees k s ctx number x tmo (λ w. task_calls (TwaiSem x tmo) e refl)).same
-  carried_out_agrees (SetFlg x bits) e = (set_flg_agrees k s ctx number _ timeouts.Pol x bits).same
-  carried_out_agrees (ClrFlg x bits) e = (clr_flg_agrees k s ctx number _ timeouts.Pol x bits).same
-  carried_out_agrees (TwaiFlg x bits all tmo) e = (twai_flg_agrees k s ctx number (record { flag = x; bits = bits; all = all }) tmo (λ w. task_calls (TwaiFlg x bits all tmo) e refl)).same
-  carried_out_agrees (TsndDtq q item tmo) e = (tsnd_dtq_agrees k s ctx number q item tmo (λ w. task_calls (TsndDtq q item tmo) e w)).same
-  carried_out_agrees (FsndDtq q item) e = (fsnd_dtq_agrees k s ctx number _ timeouts.Pol q item).same
-  carried_out_agrees (TrcvDtq q tmo) e = (trcv_dtq_agrees k s ctx number q tmo (λ w. task_calls (TrcvDtq q tmo) e refl)).same
+  carried_out_agrees (SigSem x) e = (signalled_agrees k s ctx number x timeouts.Pol (sig_sem_refusals (semaphores_of k) x)).same
+  carried_out_agrees (TwaiSem x tmo) e = (count_asked_agrees k s ctx number x tmo (twai_sem_refusals (semaphores_of k) x tmo) (λ w. task_calls (TwaiSem x tmo) e refl)).same
+  carried_out_agrees (SetFlg x bits) e = (pattern_changed_agrees k s ctx number _ timeouts.Pol (set_flg_refusals (flags_of k) x) x (with_bits bits) (with_bits_ordered bits)).same
+  carried_out_agrees (ClrFlg x bits) e = (pattern_changed_agrees k s ctx number _ timeouts.Pol (set_flg_refusals (flags_of k) x) x (only_bits bits) (only_bits_ordered bits)).same
+  carried_out_agrees (TwaiFlg x bits all tmo) e = (let w : FlagWait = record { flag = x; bits = bits; all = all } in pattern_asked_agrees k s ctx number w tmo (twai_flg_refusals (flags_of k) w tmo) (λ w. task_calls (TwaiFlg x bits all tmo) e refl)).same
+  carried_out_agrees (TsndDtq q item tmo) e = (sent_agrees k s ctx number q item tmo (tsnd_dtq_refusals (queues_of k) q tmo) (λ w. task_calls (TsndDtq q item tmo) e w)).same
+  carried_out_agrees (FsndDtq q item) e = (forced_agrees k s ctx number _ timeouts.Pol q item (fsnd_dtq_refusals (queues_of k) q)).same
+  carried_out_agrees (TrcvDtq q tmo) e = (received_agrees k s ctx number q tmo (trcv_dtq_refusals (queues_of k) q tmo) (λ w. task_calls (TrcvDtq q tmo) e refl)).same
   carried_out_agrees (SetTim ms) e = refl
   carried_out_agrees GetTim e = refl
   carried_out_agrees (StaCyc c) e = refl

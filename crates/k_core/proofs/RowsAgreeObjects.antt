@@ -27,8 +27,8 @@ use Rattle.spec_kernel.specs.PlainSemaphores.{PlainSemaphores}
 use Rattle.spec_kernel.specs.PlainSemaphores.{is_met as is_met_at_semaphores, bytes_of as bytes_at_semaphores}
 use Rattle.spec_kernel.specs.PlainFlags.{PlainFlags}
 use Rattle.spec_kernel.specs.PlainFlags.{is_met as is_met_at_flags, bytes_of as bytes_at_flags}
-use Rattle.spec_kernel.specs.SemaphoreRows.{SemaphoresDone, sig_sem, sig_sem_refusals, signalled, twai_sem, twai_sem_refusals, asked as asked_at_semaphores, waiting as waiting_at_semaphores, waiter_for as waiter_at_semaphores, took as took_at_semaphores, unless_refused as unless_semaphores_refused, refused_or as semaphores_refused_or}
-use Rattle.spec_kernel.specs.FlagRows.{FlagsDone, set_flg, clr_flg, set_flg_refusals, twai_flg, twai_flg_refusals, asked as asked_at_flags, waiting as waiting_at_flags, waiter_for as waiter_at_flags, took as took_at_flags, unless_refused as unless_flags_refused, refused_or as flags_refused_or}
+use Rattle.spec_kernel.specs.SemaphoreRows.{SemaphoresDone, signalled, asked as asked_at_semaphores, waiting as waiting_at_semaphores, waiter_for as waiter_at_semaphores, took as took_at_semaphores, unless_refused as unless_semaphores_refused, refused_or as semaphores_refused_or}
+use Rattle.spec_kernel.specs.FlagRows.{FlagsDone, asked as asked_at_flags, waiting as waiting_at_flags, waiter_for as waiter_at_flags, took as took_at_flags, unless_refused as unless_flags_refused, refused_or as flags_refused_or}
 use Rattle.spec_kernel.specs.PlainKernel.{PlainKernel, tasks_of, semaphores_of, flags_of, queues_of, with_objects, is_for_a_semaphore, is_for_a_flag, is_for_a_queue}
 use Rattle.spec_kernel.specs.Rows.{priority_in, done_by_semaphores, done_by_flags}
 use Rattle.spec_kernel.specs.Standing.{IsStanding}
@@ -60,11 +60,11 @@ one_less_ordered : (o : Option SemaphoreBlock) → semaphore_by_priority (one_le
 one_less_ordered None = refl
 one_less_ordered (Some x) = refl
 
-with_bits_ordered : (bits : ℕ) (o : Option FlagBlock) → flag_by_priority (with_bits bits o) ≡ flag_by_priority o
+pub with_bits_ordered : (bits : ℕ) (o : Option FlagBlock) → flag_by_priority (with_bits bits o) ≡ flag_by_priority o
 with_bits_ordered bits None = refl
 with_bits_ordered bits (Some x) = refl
 
-only_bits_ordered : (bits : ℕ) (o : Option FlagBlock) → flag_by_priority (only_bits bits o) ≡ flag_by_priority o
+pub only_bits_ordered : (bits : ℕ) (o : Option FlagBlock) → flag_by_priority (only_bits bits o) ≡ flag_by_priority o
 only_bits_ordered bits None = refl
 only_bits_ordered bits (Some x) = refl
 
@@ -143,14 +143,17 @@ module _ (k : PlainKernel) (s : IsStanding k) (ctx : Ctx) (number : CallNo) wher
             (ap (λ vs. record (semaphores_of k) { waiters = vs }) (joined_wait w tmo ws e)) refl refl);
       }
 
-  pub sig_sem_agrees : (x : ObjId) (tmo : Tmo) → SemaphoresAgree (reasons.Semaphore x) tmo (sig_sem (semaphores_of k) x)
-  sig_sem_agrees x tmo = semaphores_refused (reasons.Semaphore x) tmo (sig_sem_refusals (semaphores_of k) x) (signalled (semaphores_of k) x)
+  -- ---- what the calls on semaphores do
+
+  pub signalled_agrees : (x : ObjId) (tmo : Tmo) (tests : List (Bool × Er)) → SemaphoresAgree (reasons.Semaphore x) tmo (semaphores_refused_or tests (semaphores_of k) (signalled (semaphores_of k) x))
+  signalled_agrees x tmo tests = semaphores_refused (reasons.Semaphore x) tmo tests (signalled (semaphores_of k) x)
       (semaphores_took (reasons.Semaphore x) tmo (change k.objects.semaphores x.0 one_more) [] (order_kept semaphore_by_priority one_more one_more_ordered k.objects.semaphores x.0))
 
-  pub twai_sem_agrees : (x : ObjId) (tmo : Tmo) → (is_poll tmo ≡ false → CanWait k ctx) → SemaphoresAgree (reasons.Semaphore x) tmo (twai_sem (semaphores_of k) x tmo (caller ctx) (priority_in k ctx) k.next_rank)
-  twai_sem_agrees x tmo can =
+  pub count_asked_agrees : (x : ObjId) (tmo : Tmo) (tests : List (Bool × Er)) → (is_poll tmo ≡ false → CanWait k ctx)
+      → SemaphoresAgree (reasons.Semaphore x) tmo (semaphores_refused_or tests (semaphores_of k) (asked_at_semaphores (semaphores_of k) (reasons.Semaphore x) tmo (caller ctx) (priority_in k ctx) k.next_rank))
+  count_asked_agrees x tmo tests can =
       let reason : WaitReason = reasons.Semaphore x in
-      semaphores_refused reason tmo (twai_sem_refusals (semaphores_of k) x tmo) (asked_at_semaphores (semaphores_of k) reason tmo (caller ctx) (priority_in k ctx) k.next_rank)
+      semaphores_refused reason tmo tests (asked_at_semaphores (semaphores_of k) reason tmo (caller ctx) (priority_in k ctx) k.next_rank)
       (elim (cases_Bool (is_met_at_semaphores k.objects.semaphores reason)) [
         | inl e ↦ rw e (semaphores_took reason tmo (semaphores_after reason k.objects.semaphores) (bytes_at_semaphores reason) (order_kept semaphore_by_priority one_less one_less_ordered k.objects.semaphores x.0))
         | inr e ↦ rw e (semaphores_wait x tmo can)
@@ -191,18 +194,19 @@ module _ (k : PlainKernel) (s : IsStanding k) (ctx : Ctx) (number : CallNo) wher
             refl (ap (λ vs. record (flags_of k) { waiters = vs }) (joined_wait w tmo ws e)) refl);
       }
 
-  pub set_flg_agrees : (reason : WaitReason) (tmo : Tmo) (x : ObjId) (bits : ℕ) → FlagsAgree reason tmo (set_flg (flags_of k) x bits)
-  set_flg_agrees reason tmo x bits = flags_refused reason tmo (set_flg_refusals (flags_of k) x) (took_at_flags (record (flags_of k) { flags = change k.objects.flags x.0 (with_bits bits) }) [])
-      (flags_took reason tmo (change k.objects.flags x.0 (with_bits bits)) [] (order_kept flag_by_priority (with_bits bits) (with_bits_ordered bits) k.objects.flags x.0))
+  -- ---- what the calls on event flags do
 
-  pub clr_flg_agrees : (reason : WaitReason) (tmo : Tmo) (x : ObjId) (bits : ℕ) → FlagsAgree reason tmo (clr_flg (flags_of k) x bits)
-  clr_flg_agrees reason tmo x bits = flags_refused reason tmo (set_flg_refusals (flags_of k) x) (took_at_flags (record (flags_of k) { flags = change k.objects.flags x.0 (only_bits bits) }) [])
-      (flags_took reason tmo (change k.objects.flags x.0 (only_bits bits)) [] (order_kept flag_by_priority (only_bits bits) (only_bits_ordered bits) k.objects.flags x.0))
+  pub pattern_changed_agrees : (reason : WaitReason) (tmo : Tmo) (tests : List (Bool × Er)) (x : ObjId) (f : Option FlagBlock → Option FlagBlock)
+      → ((o : Option FlagBlock) → flag_by_priority (f o) ≡ flag_by_priority o)
+      → FlagsAgree reason tmo (flags_refused_or tests (flags_of k) (took_at_flags (record (flags_of k) { flags = change k.objects.flags x.0 f }) []))
+  pattern_changed_agrees reason tmo tests x f ordered = flags_refused reason tmo tests (took_at_flags (record (flags_of k) { flags = change k.objects.flags x.0 f }) [])
+      (flags_took reason tmo (change k.objects.flags x.0 f) [] (order_kept flag_by_priority f ordered k.objects.flags x.0))
 
-  pub twai_flg_agrees : (x : FlagWait) (tmo : Tmo) → (is_poll tmo ≡ false → CanWait k ctx) → FlagsAgree (reasons.Flag x) tmo (twai_flg (flags_of k) x.flag x.bits x.all tmo (caller ctx) (priority_in k ctx) k.next_rank)
-  twai_flg_agrees x tmo can =
+  pub pattern_asked_agrees : (x : FlagWait) (tmo : Tmo) (tests : List (Bool × Er)) → (is_poll tmo ≡ false → CanWait k ctx)
+      → FlagsAgree (reasons.Flag x) tmo (flags_refused_or tests (flags_of k) (asked_at_flags (flags_of k) (reasons.Flag x) tmo (caller ctx) (priority_in k ctx) k.next_rank))
+  pattern_asked_agrees x tmo tests can =
       let reason : WaitReason = reasons.Flag x in
-      flags_refused reason tmo (twai_flg_refusals (flags_of k) x tmo) (asked_at_flags (flags_of k) reason tmo (caller ctx) (priority_in k ctx) k.next_rank)
+      flags_refused reason tmo tests (asked_at_flags (flags_of k) reason tmo (caller ctx) (priority_in k ctx) k.next_rank)
       (elim (cases_Bool (is_met_at_flags k.objects.flags reason)) [
         | inl e ↦ rw e (flags_took reason tmo (flags_after reason k.objects.flags) (bytes_at_flags k.objects.flags reason) (order_kept flag_by_priority released released_ordered k.objects.flags x.flag.0))
         | inr e ↦ rw e (flags_wait x tmo can)

@@ -18,8 +18,8 @@ use Rattle.spec_kernel.specs.declared.reason.WaitReason.TheVariants as reasons
 use Rattle.spec_kernel.specs.declared.reason.WaitingCall.{WaitingCall}
 use Rattle.spec_kernel.specs.TaskBlocks.{priority_of, with_priority}
 use Rattle.spec_kernel.specs.PlainTasks.{PlainTasks, is_same, with_task, last_in_order}
-use Rattle.spec_kernel.specs.TaskRows.{chg_pri, chg_pri_refusals, reprioritised, named}
-use Rattle.spec_kernel.specs.TaskRows.{answered as task_answered, unless_refused as unless_task_refused}
+use Rattle.spec_kernel.specs.TaskRows.{reprioritised, named}
+use Rattle.spec_kernel.specs.TaskRows.{answered as task_answered, unless_refused as unless_task_refused, refused_or as task_refused_or}
 use Rattle.spec_kernel.specs.Waiters.{is_task}
 use Rattle.spec_kernel.specs.Waiters.{moved as waiter_moved, reprioritised as reprioritised_in}
 use Rattle.spec_kernel.specs.Waiting.{is_by_priority}
@@ -198,8 +198,9 @@ module _ (k : PlainKernel) (s : IsStanding k) (t : TaskId) (after : PlainTasks) 
 
 -- ---- the call
 
-pub chg_pri_agrees : (k : PlainKernel) (s : IsStanding k) (ctx : Ctx) (t : TaskId) (n : ℕ) → parts_moving (parts_of k) ctx t (chg_pri (tasks_of k) ctx t n) ≡ told (moving k ctx t (chg_pri (tasks_of k) ctx t n))
-chg_pri_agrees k s ctx t n = of (first_refusal (chg_pri_refusals (tasks_of k) ctx t n))
+pub reprioritised_agrees : (k : PlainKernel) (s : IsStanding k) (ctx : Ctx) (t : TaskId) (n : ℕ) (tests : List (Bool × Er))
+    → let done = task_refused_or tests (tasks_of k) (reprioritised (tasks_of k) (named ctx t) n) in parts_moving (parts_of k) ctx t done ≡ told (moving k ctx t done)
+reprioritised_agrees k s ctx t n tests = of (first_refusal tests)
   where
     of : (o : Option Er) → let done = unless_task_refused o (tasks_of k) (reprioritised (tasks_of k) (named ctx t) n) in parts_moving (parts_of k) ctx t done ≡ told (moving k ctx t done)
     of (Some code) = elim (cases_Bool (is_negative code.0)) [

@@ -27,7 +27,7 @@ use Rattle.spec_kernel.specs.Waiting.{is_by_priority}
 use Rattle.spec_kernel.specs.DataQueues.{DataQueue, sends_by_priority, hands_over, with_item, with_forced_item, item_taken}
 use Rattle.spec_kernel.specs.PlainQueues.{PlainQueues, is_met, bytes_of, handed_bytes}
 use Rattle.spec_kernel.specs.PlainQueues.{is_by_priority as is_ordered_at_queues}
-use Rattle.spec_kernel.specs.QueueRows.{QueuesDone, waiting, waiter_for, took, unless_refused, refused_or, other_side, handing, item_sent, sends_at_once, sent_to, received_from, forced, tsnd_dtq, fsnd_dtq, trcv_dtq, tsnd_dtq_refusals, fsnd_dtq_refusals, trcv_dtq_refusals}
+use Rattle.spec_kernel.specs.QueueRows.{QueuesDone, waiting, waiter_for, took, unless_refused, refused_or, other_side, handing, item_sent, sends_at_once, sent_to, received_from, forced}
 use Rattle.spec_kernel.specs.PlainKernel.{PlainKernel, is_of, task_wait, waits_by_task, tasks_of, semaphores_of, flags_of, queues_of, is_for_a_semaphore, is_for_a_flag, is_for_a_queue, waiter_of}
 use Rattle.spec_kernel.specs.Settle.{ending, ended}
 use Rattle.spec_kernel.specs.Rows.{answered_with, priority_in, handed_to, done_by_queues}
@@ -231,8 +231,9 @@ module _ (k : PlainKernel) (s : IsStanding k) (ctx : Ctx) (number : CallNo) wher
     | inr t ↦ absurd (let f : None ≡ Some v = rw t at e in cc)
   ]
 
-  pub tsnd_dtq_agrees : (q : ObjId) (item : ℕ) (tmo : Tmo) → (is_poll tmo ≡ false → CanWait k ctx) → QueuesAgree k s ctx number (reasons.Send q item) tmo (tsnd_dtq (queues_of k) q item tmo (caller ctx) (priority_in k ctx) k.next_rank)
-  tsnd_dtq_agrees q item tmo can = queues_refused k s ctx number (reasons.Send q item) tmo (tsnd_dtq_refusals (queues_of k) q tmo) _ (of (other_side (queues_of k) q (reasons.Receive q)) refl)
+  pub sent_agrees : (q : ObjId) (item : ℕ) (tmo : Tmo) (tests : List (Bool × Er)) → (is_poll tmo ≡ false → CanWait k ctx)
+      → QueuesAgree k s ctx number (reasons.Send q item) tmo (refused_or tests (queues_of k) (sent_to (queues_of k) q item tmo (caller ctx) (priority_in k ctx) k.next_rank (other_side (queues_of k) q (reasons.Receive q))))
+  sent_agrees q item tmo tests can = queues_refused k s ctx number (reasons.Send q item) tmo tests _ (of (other_side (queues_of k) q (reasons.Receive q)) refl)
     where
       of : (o : Option (Waiter × List Waiter)) → other_side (queues_of k) q (reasons.Receive q) ≡ o → QueuesAgree k s ctx number (reasons.Send q item) tmo (sent_to (queues_of k) q item tmo (caller ctx) (priority_in k ctx) k.next_rank o)
       of (Some v) e = queues_handing k s ctx number (reasons.Send q item) tmo (is_least (is_in (reasons.Receive q)) urgency (queues_of k).waiters) v (Some item) [] (found_there q (reasons.Receive q) v e)
@@ -241,12 +242,13 @@ module _ (k : PlainKernel) (s : IsStanding k) (ctx : Ctx) (number : CallNo) wher
         | inr t ↦ rw t (queues_wait (reasons.Send q item) tmo refl refl refl refl can)
       ]
 
-  pub fsnd_dtq_agrees : (reason : WaitReason) (tmo : Tmo) (q : ObjId) (item : ℕ) → QueuesAgree k s ctx number reason tmo (fsnd_dtq (queues_of k) q item)
-  fsnd_dtq_agrees reason tmo q item = queues_refused k s ctx number reason tmo (fsnd_dtq_refusals (queues_of k) q) (forced (queues_of k) q item)
+  pub forced_agrees : (reason : WaitReason) (tmo : Tmo) (q : ObjId) (item : ℕ) (tests : List (Bool × Er)) → QueuesAgree k s ctx number reason tmo (refused_or tests (queues_of k) (forced (queues_of k) q item))
+  forced_agrees reason tmo q item tests = queues_refused k s ctx number reason tmo tests (forced (queues_of k) q item)
       (queues_took k s ctx number reason tmo (change k.objects.queues q.0 (with_forced_item item)) [] (order_kept sends_by_priority (with_forced_item item) (with_forced_ordered item) k.objects.queues q.0))
 
-  pub trcv_dtq_agrees : (q : ObjId) (tmo : Tmo) → (is_poll tmo ≡ false → CanWait k ctx) → QueuesAgree k s ctx number (reasons.Receive q) tmo (trcv_dtq (queues_of k) q tmo (caller ctx) (priority_in k ctx) k.next_rank)
-  trcv_dtq_agrees q tmo can = queues_refused k s ctx number (reasons.Receive q) tmo (trcv_dtq_refusals (queues_of k) q tmo) _ (of (other_side (queues_of k) q (reasons.Send q 0)) refl)
+  pub received_agrees : (q : ObjId) (tmo : Tmo) (tests : List (Bool × Er)) → (is_poll tmo ≡ false → CanWait k ctx)
+      → QueuesAgree k s ctx number (reasons.Receive q) tmo (refused_or tests (queues_of k) (received_from (queues_of k) q tmo (caller ctx) (priority_in k ctx) k.next_rank (other_side (queues_of k) q (reasons.Send q 0))))
+  received_agrees q tmo tests can = queues_refused k s ctx number (reasons.Receive q) tmo tests _ (of (other_side (queues_of k) q (reasons.Send q 0)) refl)
     where
       of : (o : Option (Waiter × List Waiter)) → other_side (queues_of k) q (reasons.Send q 0) ≡ o → QueuesAgree k s ctx number (reasons.Receive q) tmo (received_from (queues_of k) q tmo (caller ctx) (priority_in k ctx) k.next_rank o)
       of (Some v) e = queues_handing k s ctx number (reasons.Receive q) tmo (is_least (is_in (reasons.Send q 0)) urgency (queues_of k).waiters) v None (four_bytes (item_sent v.0.reason)) (found_there q (reasons.Send q 0) v e)

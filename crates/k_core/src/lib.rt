@@ -15,7 +15,6 @@ mod rows;
 mod searching;
 mod settling;
 mod task_calls;
-mod waiting_calls;
 
 pub use declarable::is_declarable;
 pub use done::Done;
