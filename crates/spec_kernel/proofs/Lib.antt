@@ -1,14 +1,8 @@
 pub mod Declared
 pub mod Least
-pub mod TaskHistories
-pub mod SemaphoreHistories
-pub mod FlagHistories
 pub mod NextWaiter
-pub mod QueueHistories
 pub mod OneSide
-pub mod ClockHistories
 pub mod WaitingParts
 pub mod RisingRanks
-pub mod Histories
 pub mod NobodyMet
 pub mod QueuesAtRest

@@ -1,0 +1,6 @@
+mod TaskHistories
+mod SemaphoreHistories
+mod FlagHistories
+mod QueueHistories
+mod ClockHistories
+mod Histories
