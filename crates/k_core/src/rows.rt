@@ -13,7 +13,7 @@ ghost use Rattle.spec_kernel.specs.FlagRows.{twai_flg};
 ghost use Rattle.spec_kernel.specs.QueueRows.{trcv_dtq, tsnd_dtq};
 ghost use Rattle.spec_kernel.specs.Calls.{is_a_handlers};
 ghost use Rattle.k_core.specs.PartsRows.{carried_out, done_by_flags, done_by_queues, done_by_semaphores, priority_in, reprioritised, row};
-ghost use Rattle.k_core.specs.Callers.{MayCall};
+ghost use Rattle.k_core.specs.Callers.{MayCall, MayCallAs};
 ghost use Rattle.k_core.specs.Does.{Does};
 
 use crate::Done;
@@ -198,9 +198,11 @@ impl Parts {
 
     // ---- calls that may have to wait, and a new priority
 
-    /// The priority of the caller.
+    /// The priority of the caller, which waits nowhere.
     fn priority_in(&self, ctx: Ctx) -> u32
-        ensures { result ≡ priority_in self.now ctx }
+        requires caller { MayCall self.now ctx }
+        ensures priority { result ≡ priority_in self.now ctx }
+        ensures idle { is_handler ctx ≡ false → MayCallAs self.now (caller ctx) }
     {
         self.tasks.pri(ctx.caller())
     }

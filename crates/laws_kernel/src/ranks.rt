@@ -10,7 +10,7 @@ ghost use Rattle.laws_kernel.specs.Ranks.{ComesFirstOf, Operation, OrderedAlong,
 
 /// The kernel's ranks are places in two lists: of the runnable tasks, and of the calls that wait. A kernel that keeps numbers
 /// in place of places does the same. For let a number be drawn whenever a rank is new: when a task becomes runnable
-/// (µITRON4.0 section 3.2), when a call begins to wait, and when a task or its call is put last (`chg_pri`, `rot_rdq`). Then
+/// (µITRON4.0 section 3.2), when a call begins to wait, and when a task or its call is put last, as by a new priority. Then
 /// over every list of operations the numbers rise along both lists (`along`). So the running task is of the runnable ones the
 /// one of the least priority and, among equals, of the least number (`running`); and wherever the first is taken that passes
 /// some test, it is the one of the least number of those that pass (`tasks`, `calls`).
