@@ -1,11 +1,9 @@
 -- A field of a line: it is read as it is spelled, and is read again from its text.
-use Rattle.std.proofs.Common.{◌≡◌, ℕ, ◌<◌, Bool, true, false, List, [], ◌∷◌, ◌++◌, Option, Some, None, is_some, codes, refl, sym, ap, subst, ◌∙◌}
+use Rattle.std.proofs.Common.{◌≡◌, ℕ, ◌<◌, Bool, true, false, List, [], ◌++◌, Option, Some, None, is_some, codes, refl, sym, ap, ◌∙◌}
 use Rattle.std.specs.Char.{is_ascii_digit}
 use Rattle.std.specs.Fmt.{decimal}
-use Rattle.std.proofs.lemmas.List.{append-nil}
 use Rattle.it_types.specs.Cursor.{and_then, or_else, after}
-use Rattle.it_types.specs.Numbers.{number_at}
-use Rattle.it_types.proofs.ReadSteps.{read_step, found_is, after_again, after_takes}
+use Rattle.it_types.proofs.ReadSteps.{read_step, found_is, after_takes}
 use Rattle.it_types.proofs.Fronts.{stops}
 use Rattle.it_types.proofs.Numerals.{number_takes, number_again, number_last}
 use Rattle.spec_script.specs.Lines.{number_text, choice_text, order_text, waiters_text, clearing_text, start_text, field}

@@ -1,4 +1,4 @@
-ghost use Rattle.std.specs.Prelude.{◌≡◌, true, OnOk};
+ghost use Rattle.std.specs.Prelude.{◌≡◌, true, [], OnOk};
 ghost use Rattle.spec_script.specs.Lines.{no_node};
 ghost use Rattle.spec_script.specs.Ranges.{is_node_in_range, is_in_range};
 ghost use Rattle.s_script.specs.Drafts.{start, is_last, in_place, has_room, is_declared, cause, node_of, with_object, moved};
@@ -171,6 +171,31 @@ impl Draft {
         }
     }
 
+    fn begin_first(&mut self, alloc: Global, line: NodeLine)
+        requires { is_node_in_range line ≡ true }
+        ensures { self.new ≡ moved self.old (ScriptLine.FirstNode line) }
+    {
+        self.stage = Stage::Declares;
+        self.first = None;
+        self.node = node_of(alloc, line);
+    }
+
+    fn begin_second(&mut self, alloc: Global, line: NodeLine)
+        requires { is_node_in_range line ≡ true }
+        ensures { self.new ≡ moved self.old (ScriptLine.SecondNode line) }
+    {
+        self.stage = Stage::Declares;
+        self.first = Some(mem::replace(&mut self.node, node_of(alloc, line)));
+    }
+
+    fn open_task(&mut self, alloc: Global, task: TaskDecl)
+        ensures { self.new ≡ record self.old { stage = Stage.InTask; task = task; body = [] } }
+    {
+        self.stage = Stage::InTask;
+        self.task = task;
+        self.body = List::new(alloc);
+    }
+
     fn add_object(&mut self, decl: Decl) -> Result<(), NoMemory>
         ensures { OnOk result (self.new ≡ with_object self.old decl) }
     {
@@ -203,15 +228,8 @@ impl Draft {
                 self.stage = Stage::Timed;
                 self.ticks = to_u32(ticks);
             }
-            ScriptLine::FirstNode(node) => {
-                self.stage = Stage::Declares;
-                self.first = None;
-                self.node = node_of(alloc, node);
-            }
-            ScriptLine::SecondNode(node) => {
-                self.stage = Stage::Declares;
-                self.first = Some(mem::replace(&mut self.node, node_of(alloc, node)));
-            }
+            ScriptLine::FirstNode(node) => self.begin_first(alloc, node),
+            ScriptLine::SecondNode(node) => self.begin_second(alloc, node),
             ScriptLine::Sem { id, pri, init, max } => {
                 self.add_object(Decl::Sem(semaphore_of(id, pri, init, max)))?;
             }
@@ -227,11 +245,7 @@ impl Draft {
             ScriptLine::Dtq { id, pri, cap } => {
                 self.add_object(Decl::Dtq(queue_of(id, pri, cap)))?;
             }
-            ScriptLine::Task { id, pri, act } => {
-                self.stage = Stage::InTask;
-                self.task = task_of(id, pri, act);
-                self.body = List::new(alloc);
-            }
+            ScriptLine::Task { id, pri, act } => self.open_task(alloc, task_of(id, pri, act)),
             ScriptLine::Call { req, fits: _ } => {
                 self.stage = Stage::InTask;
                 self.body.push(Line::Call { req })?;
