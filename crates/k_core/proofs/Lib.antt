@@ -1,7 +1,9 @@
 pub mod AtOpening
 pub mod Calling
+pub mod Declarations
 pub mod EndAgrees
 pub mod KernelSteps
+pub mod NewIds
 pub mod NextAgrees
 pub mod RowsAgree
 pub mod RowsAgreeObjects

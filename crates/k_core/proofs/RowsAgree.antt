@@ -14,7 +14,8 @@ use Rattle.spec_kernel.specs.TaskBlocks.{suspensions_of, without_activations, wi
 use Rattle.spec_kernel.specs.PlainTasks.{has_priority}
 use Rattle.spec_kernel.specs.TaskRows.{named, rotated_priority, act_tsk_refusals, can_act_refusals, ter_tsk_refusals, get_pri_refusals, rot_rdq_refusals, wup_tsk_refusals, can_wup_refusals, rel_wai_refusals, sus_tsk_refusals, rsm_tsk_refusals}
 use Rattle.spec_kernel.specs.PlainKernel.{PlainKernel, tasks_of}
-use Rattle.spec_kernel.specs.Rows.{is_a_handlers, carried_out, row}
+use Rattle.spec_kernel.specs.Calls.{is_a_handlers}
+use Rattle.spec_kernel.specs.Rows.{carried_out, row}
 use Rattle.spec_kernel.specs.Standing.{IsStanding}
 use Rattle.spec_kernel.specs.Parts.{parts_of}
 use Rattle.k_core.specs.PartsRows.{carried_out as parts_carried_out, row as parts_row}

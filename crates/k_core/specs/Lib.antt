@@ -1,6 +1,7 @@
 pub mod PartsRows
 pub mod PartsSettle
 pub mod Found
+pub mod Declarations
 pub mod Does
 pub mod Callers
 pub mod PartsTime

@@ -1,17 +1,15 @@
 -- The calls of the kernel as its parts make them, one part after another: it is proved that this is what the whole kernel does.
-use Rattle.std.specs.Prelude.{ℕ, ◌+◌, Bool, false, not, ◌&&◌, ◌||◌, List, [], ◌∷◌, ◌++◌, Option, Some, None, if◌then◌else◌}
+use Rattle.std.specs.Prelude.{ℕ, ◌+◌, Bool, not, ◌&&◌, ◌||◌, List, [], ◌∷◌, ◌++◌, Option, Some, None, if◌then◌else◌}
 use Rattle.std.specs.Int.{is_negative}
 use Rattle.it_types.specs.declared.id.TaskId.{TaskId}
 use Rattle.it_types.specs.declared.id.CallNo.{CallNo}
 use Rattle.it_types.specs.declared.er.Er.{Er}
 use Rattle.it_types.specs.declared.er.TheConstants.{E_OK, E_CTX, E_TMOUT}
 use Rattle.it_types.specs.declared.timeout.Tmo.{Tmo}
-use Rattle.it_types.specs.declared.timeout.Tmo.TheVariants as timeouts
 use Rattle.it_types.specs.declared.context.Ctx.{Ctx}
 use Rattle.it_types.specs.declared.synced.Synced.{Synced}
 use Rattle.it_types.specs.declared.synced.Synced.TheVariants.{Took, MustWait, Refused}
 use Rattle.it_types.specs.declared.kernel_request.KReq.{KReq}
-use Rattle.it_types.specs.declared.kernel_request.KReq.TheVariants.{ActTsk, CanAct, ExtTsk, TerTsk, ChgPri, GetPri, TslpTsk, WupTsk, CanWup, RelWai, SusTsk, RsmTsk, FrsmTsk, DlyTsk, RotRdq, GetTid, SigSem, TwaiSem, SetFlg, ClrFlg, TwaiFlg, TsndDtq, FsndDtq, TrcvDtq, SetTim, GetTim, StaCyc, StpCyc}
 use Rattle.it_types.specs.Callers.{nobody, is_handler, caller, is_poll}
 use Rattle.spec_lists.specs.First.{take_first}
 use Rattle.spec_kernel.specs.declared.did.Did.{Did}
@@ -21,22 +19,21 @@ use Rattle.spec_kernel.specs.declared.outcome.KAns.{KAns}
 use Rattle.spec_kernel.specs.declared.outcome.KAns.TheVariants.{Now, Pends}
 use Rattle.spec_kernel.specs.declared.outcome.KEnd.{KEnd}
 use Rattle.spec_kernel.specs.declared.reason.WaitReason.{WaitReason}
-use Rattle.spec_kernel.specs.declared.reason.WaitReason.TheVariants as reasons
 use Rattle.spec_kernel.specs.declared.reason.WaitingCall.{WaitingCall}
-use Rattle.spec_kernel.specs.AnswerBytes.{eight_bytes}
 use Rattle.spec_kernel.specs.TaskBlocks.{priority_of}
 use Rattle.spec_kernel.specs.PlainTasks.{PlainTasks, block_of, waiting, woken}
-use Rattle.spec_kernel.specs.TaskRows.{TaskDone, act_tsk, can_act, ext_tsk, ter_tsk, chg_pri, get_pri, tslp_tsk, wup_tsk, can_wup, rel_wai, sus_tsk, rsm_tsk, frsm_tsk, dly_tsk, rot_rdq, get_tid, named}
+use Rattle.spec_kernel.specs.TaskRows.{TaskDone, named}
 use Rattle.spec_kernel.specs.PlainSemaphores.{left as left_semaphores, reprioritised as semaphores_reprioritised, is_by_priority as is_ordered_semaphore}
 use Rattle.spec_kernel.specs.PlainFlags.{left as left_flags, reprioritised as flags_reprioritised, is_by_priority as is_ordered_flag}
 use Rattle.spec_kernel.specs.PlainQueues.{left as left_queues, reprioritised as queues_reprioritised, is_by_priority as is_ordered_queue, handed_bytes}
-use Rattle.spec_kernel.specs.SemaphoreRows.{SemaphoresDone, sig_sem, twai_sem}
-use Rattle.spec_kernel.specs.FlagRows.{FlagsDone, set_flg, clr_flg, twai_flg}
-use Rattle.spec_kernel.specs.QueueRows.{QueuesDone, tsnd_dtq, fsnd_dtq, trcv_dtq}
-use Rattle.spec_kernel.specs.PlainClock.{time_set, answer_on, sta_cyc, stp_cyc}
+use Rattle.spec_kernel.specs.SemaphoreRows.{SemaphoresDone}
+use Rattle.spec_kernel.specs.FlagRows.{FlagsDone}
+use Rattle.spec_kernel.specs.QueueRows.{QueuesDone}
+use Rattle.spec_kernel.specs.Calls.{Row, is_a_handlers, row_of}
+use Rattle.spec_kernel.specs.Calls.Row.{TasksAtOnce, TasksInTime, NewPriority, OnSemaphores, OnFlags, OnQueues, OnClock}
 use Rattle.spec_kernel.specs.PlainKernel.{is_of}
 use Rattle.spec_kernel.specs.Settle.{ending}
-use Rattle.spec_kernel.specs.Rows.{deadline_of, or_nobody, answer_of, ended_call, released_end, is_a_handlers}
+use Rattle.spec_kernel.specs.Rows.{deadline_of, or_nobody, answer_of, ended_call, released_end}
 use Rattle.spec_kernel.specs.Parts.{PlainParts}
 
 pub record PartsOutcome : Type 0 where
@@ -168,35 +165,18 @@ done_by_queues p ctx done reason tmo number = handed_over (done_by_objects (reco
 abbrev pub priority_in : PlainParts → Ctx → ℕ
 priority_in p ctx = priority_of (block_of p.tasks (caller ctx))
 
+-- what a call of each kind comes to
+abbrev pub done_as : PlainParts → Ctx → Row → CallNo → PartsOutcome
+done_as p ctx (TasksAtOnce done) number = at_once p ctx (done p.tasks)
+done_as p ctx (TasksInTime done reason tmo) number = done_by_tasks p ctx (done p.tasks) reason tmo number
+done_as p ctx (NewPriority task done) number = reprioritised p ctx task (done p.tasks)
+done_as p ctx (OnSemaphores done reason tmo) number = done_by_semaphores p ctx (done p.sems (priority_in p ctx) p.tasks.next_rank) reason tmo number
+done_as p ctx (OnFlags done reason tmo) number = done_by_flags p ctx (done p.flags (priority_in p ctx) p.tasks.next_rank) reason tmo number
+done_as p ctx (OnQueues done reason tmo) number = done_by_queues p ctx (done p.dtqs (priority_in p ctx) p.tasks.next_rank) reason tmo number
+done_as p ctx (OnClock after code bytes) number = answered_with (record p { clock = after p.clock }) (code p.clock) (bytes p.clock)
+
 abbrev pub carried_out : PlainParts → Ctx → KReq → CallNo → PartsOutcome
-carried_out p ctx (ActTsk t) number = at_once p ctx (act_tsk p.tasks ctx t)
-carried_out p ctx (CanAct t) number = at_once p ctx (can_act p.tasks ctx t)
-carried_out p ctx ExtTsk number = at_once p ctx (ext_tsk p.tasks ctx)
-carried_out p ctx (TerTsk t) number = at_once p ctx (ter_tsk p.tasks ctx t)
-carried_out p ctx (ChgPri t pri) number = reprioritised p ctx t (chg_pri p.tasks ctx t pri)
-carried_out p ctx (GetPri t) number = at_once p ctx (get_pri p.tasks ctx t)
-carried_out p ctx (TslpTsk tmo) number = done_by_tasks p ctx (tslp_tsk p.tasks ctx tmo) reasons.Sleep tmo number
-carried_out p ctx (WupTsk t) number = at_once p ctx (wup_tsk p.tasks ctx t)
-carried_out p ctx (CanWup t) number = at_once p ctx (can_wup p.tasks ctx t)
-carried_out p ctx (RelWai t) number = at_once p ctx (rel_wai p.tasks ctx t)
-carried_out p ctx (SusTsk t) number = at_once p ctx (sus_tsk p.tasks ctx t)
-carried_out p ctx (RsmTsk t) number = at_once p ctx (rsm_tsk p.tasks ctx t)
-carried_out p ctx (FrsmTsk t) number = at_once p ctx (frsm_tsk p.tasks ctx t)
-carried_out p ctx (DlyTsk ticks) number = done_by_tasks p ctx (dly_tsk p.tasks ctx) reasons.Delay (timeouts.Ms ticks) number
-carried_out p ctx (RotRdq pri) number = at_once p ctx (rot_rdq p.tasks ctx pri)
-carried_out p ctx GetTid number = at_once p ctx (get_tid p.tasks)
-carried_out p ctx (SigSem s) number = done_by_semaphores p ctx (sig_sem p.sems s) (reasons.Semaphore s) timeouts.Pol number
-carried_out p ctx (TwaiSem s tmo) number = done_by_semaphores p ctx (twai_sem p.sems s tmo (caller ctx) (priority_in p ctx) p.tasks.next_rank) (reasons.Semaphore s) tmo number
-carried_out p ctx (SetFlg f bits) number = done_by_flags p ctx (set_flg p.flags f bits) (reasons.Flag (record { flag = f; bits = bits; all = false })) timeouts.Pol number
-carried_out p ctx (ClrFlg f bits) number = done_by_flags p ctx (clr_flg p.flags f bits) (reasons.Flag (record { flag = f; bits = bits; all = false })) timeouts.Pol number
-carried_out p ctx (TwaiFlg f bits all tmo) number = done_by_flags p ctx (twai_flg p.flags f bits all tmo (caller ctx) (priority_in p ctx) p.tasks.next_rank) (reasons.Flag (record { flag = f; bits = bits; all = all })) tmo number
-carried_out p ctx (TsndDtq q item tmo) number = done_by_queues p ctx (tsnd_dtq p.dtqs q item tmo (caller ctx) (priority_in p ctx) p.tasks.next_rank) (reasons.Send q item) tmo number
-carried_out p ctx (FsndDtq q item) number = done_by_queues p ctx (fsnd_dtq p.dtqs q item) (reasons.Send q item) timeouts.Pol number
-carried_out p ctx (TrcvDtq q tmo) number = done_by_queues p ctx (trcv_dtq p.dtqs q tmo (caller ctx) (priority_in p ctx) p.tasks.next_rank) (reasons.Receive q) tmo number
-carried_out p ctx (SetTim ms) number = answered (record p { clock = time_set p.clock ms }) E_OK
-carried_out p ctx GetTim number = answered_with p E_OK (eight_bytes p.clock.system)
-carried_out p ctx (StaCyc c) number = answered (record p { clock = sta_cyc p.clock c }) (answer_on p.clock c)
-carried_out p ctx (StpCyc c) number = answered (record p { clock = stp_cyc p.clock c }) (answer_on p.clock c)
+carried_out p ctx request number = done_as p ctx (row_of ctx request) number
 
 abbrev pub row : PlainParts → Ctx → KReq → CallNo → PartsOutcome
 row p ctx request number = if is_handler ctx && not (is_a_handlers request) then answered p E_CTX else carried_out p ctx request number

@@ -1,8 +1,10 @@
 ghost use Rattle.std.specs.Prelude.{ℕ, [], ◌≡◌, ◌≢◌, ◌<◌, ◌^◌, ◌↔◌, None, Some, IsTrue, true};
+ghost use Rattle.std.specs.List.{list_any};
 ghost use Rattle.it_types.specs.declared.context.Ctx.{Ctx as ACtx};
 ghost use Rattle.it_types.specs.declared.id.TaskId.{TaskId as ATaskId};
 ghost use Rattle.it_types.specs.declared.kernel_request.KReq.{KReq as AKReq};
 ghost use Rattle.spec_kernel.specs.declared.outcome.KEnd.{KEnd as AKEnd};
+ghost use Rattle.spec_kernel.specs.TaskBlocks.{is_active};
 ghost use Rattle.spec_kernel.specs.PlainTasks.{running};
 ghost use Rattle.spec_kernel.specs.PlainClock.{due_at_tick};
 ghost use Rattle.spec_kernel.specs.PlainKernel.{tasks_of};
@@ -55,6 +57,13 @@ impl Kernel {
         ensures { result ≡ self.now.clock.now }
     {
         self.parts.clock.now()
+    }
+
+    /// Whether a task is active.
+    pub fn is_any_active(&self) -> bool
+        ensures { result ≡ list_any is_active self.now.tasks }
+    {
+        self.parts.tasks.is_any_active()
     }
 
     /// Whether the number is above that of each call that waited, as `call` and `block` ask for.

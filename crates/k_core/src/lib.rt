@@ -3,6 +3,7 @@
 
 mod accepting;
 mod deadlines;
+mod declarable;
 mod done;
 mod ending;
 mod kernel;
@@ -16,6 +17,7 @@ mod settling;
 mod task_calls;
 mod waiting_calls;
 
+pub use declarable::is_declarable;
 pub use done::Done;
 pub use kernel::Kernel;
 pub use spec_kernel::{KAns, KEnd};

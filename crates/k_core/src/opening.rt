@@ -1,6 +1,7 @@
-ghost use Rattle.std.specs.Prelude.{◌≡◌, IfOk};
+ghost use Rattle.std.specs.Prelude.{◌≡◌, ◌↔◌, IfOk, IsTrue};
 ghost use Rattle.spec_kernel.specs.Opening.{IsDeclarable, opened};
 
+use crate::declarable::is_declarable;
 use crate::kernel::Kernel;
 use crate::parts::Parts;
 use arrayvec::ArrayVec;
@@ -11,6 +12,19 @@ use k_time::Clock;
 use std::alloc::Global;
 
 impl Kernel {
+    /// Whether a kernel can be opened with these declarations: `is_declarable` of all of them.
+    pub fn can_open(conf: &KConf) -> bool
+        ensures { IsTrue result ↔ IsDeclarable conf.now }
+    {
+        is_declarable(
+            conf.tasks.tasks.as_slice(),
+            conf.sync.sems.as_slice(),
+            conf.sync.flags.as_slice(),
+            conf.sync.dtqs.as_slice(),
+            conf.cycs.cycs.as_slice(),
+        )
+    }
+
     /// The kernel of a node with these declarations, at tick 0 with its active tasks runnable in the order of their declarations.
     pub fn open(alloc: Global, conf: &KConf) -> Result<Kernel, NoMemory>
         requires { IsDeclarable conf.now }

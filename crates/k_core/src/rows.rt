@@ -7,7 +7,7 @@ ghost use Rattle.spec_kernel.specs.declared.outcome.KAns.TheVariants.{Now};
 ghost use Rattle.spec_kernel.specs.declared.reason.WaitReason.{WaitReason as AWaitReason};
 ghost use Rattle.spec_kernel.specs.PlainSemaphores.{next_ready as next_at_semaphores};
 ghost use Rattle.spec_kernel.specs.PlainQueues.{next_ready as next_at_queues};
-ghost use Rattle.spec_kernel.specs.Rows.{is_a_handlers};
+ghost use Rattle.spec_kernel.specs.Calls.{is_a_handlers};
 ghost use Rattle.k_core.specs.PartsRows.{carried_out, row};
 ghost use Rattle.k_core.specs.Callers.{MayCall};
 ghost use Rattle.k_core.specs.Does.{Does};

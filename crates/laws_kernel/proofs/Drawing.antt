@@ -39,7 +39,8 @@ use Rattle.spec_kernel.specs.PlainClock.{unless_refused as unless_clock_refused}
 use Rattle.spec_kernel.specs.Waiting.{PlainObjects}
 use Rattle.spec_kernel.specs.PlainKernel.{PlainKernel, is_of, tasks_of, with_objects}
 use Rattle.spec_kernel.specs.Settle.{Outcome, ended, freed, next_freed, settle, settled}
-use Rattle.spec_kernel.specs.Rows.{answered, accepted, done_at_once, done_by_tasks, done_by_objects, handed_to, with_handed, moved, last_in_its_queue, is_a_handlers, carried_out, row, call, quiet, ticked, tick}
+use Rattle.spec_kernel.specs.Calls.{is_a_handlers}
+use Rattle.spec_kernel.specs.Rows.{answered, accepted, done_at_once, done_by_tasks, done_by_objects, handed_to, with_handed, moved, last_in_its_queue, carried_out, row, call, quiet, ticked, tick}
 use Rattle.spec_kernel.specs.Rows.{reprioritised as moving}
 use Rattle.spec_kernel.specs.Time.{by_time, due, blocked, is_outside_of, unblocked}
 use Rattle.spec_kernel.specs.Opening.{opened}

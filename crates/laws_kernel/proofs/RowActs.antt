@@ -44,7 +44,8 @@ use Rattle.spec_kernel.specs.PlainClock.{PlainClock, time_set, sta_cyc, stp_cyc}
 use Rattle.spec_kernel.specs.PlainClock.{unless_refused as unless_clock_refused}
 use Rattle.spec_kernel.specs.PlainKernel.{PlainKernel, is_of, tasks_of, with_tasks, with_objects}
 use Rattle.spec_kernel.specs.Settle.{Outcome, ended}
-use Rattle.spec_kernel.specs.Rows.{answered, with_wait, accepted, answer_of, ended_call, the_others, done_at_once, done_by_tasks, waits_by_priority, moved_unless_refused, done_by_objects, handed_to, with_handed, is_a_handlers, carried_out, row}
+use Rattle.spec_kernel.specs.Calls.{is_a_handlers}
+use Rattle.spec_kernel.specs.Rows.{answered, with_wait, accepted, answer_of, ended_call, the_others, done_at_once, done_by_tasks, waits_by_priority, moved_unless_refused, done_by_objects, handed_to, with_handed, carried_out, row}
 use Rattle.spec_kernel.specs.Rows.{reprioritised as moving}
 use Rattle.spec_kernel.specs.Standing.{task_number, IsStanding}
 use Rattle.laws_kernel.specs.Calling.{Calls}

@@ -1,193 +1,202 @@
 -- Over every list of events both parts of a node agree.
-use Rattle.std.proofs.Common.{◌≡◌, ℕ, zero, suc, ◌+◌, ◌≤◌, Bool, true, false, not, List, [], ◌∷◌, length, slice_set, Option, Some, None, is_some, refl, sym, ap, ◌∙◌, inl, inr, arith}
+use Rattle.std.proofs.Common.{◌≡◌, ◌≢◌, ℕ, ◌+◌, ◌≤◌, Bool, true, false, not, List, [], ◌∷◌, ◌++◌, Option, Some, None, is_some, refl, sym, ap, ◌∙◌, subst, inl, inr, arith}
+use mathlib.Core.Logic.{◌⊎◌}
 use Rattle.std.specs.Prelude.{◌==◌}
-use Rattle.std.proofs.lemmas.Bool.{cases_eq, ne_eqb, and_parts, not-true}
-use Rattle.std.proofs.lemmas.List.{get_or-set_other}
+use Rattle.std.proofs.lemmas.Bool.{eqb-true, eq-eqb, and_parts, not-true}
 use Rattle.it_types.specs.declared.id.TaskId.{TaskId}
 use Rattle.it_types.specs.declared.id.CallNo.{CallNo}
 use Rattle.it_types.specs.declared.timeout.Tmo.{Tmo}
-use Rattle.it_types.specs.declared.context.Ctx.{Ctx}
+use Rattle.it_types.specs.declared.answer.Ans.{Ans}
+use Rattle.it_types.specs.declared.answer.Ans.TheVariants as answers
 use Rattle.it_types.specs.declared.context.Ctx.TheVariants as contexts
 use Rattle.it_types.specs.declared.conf.KConf.{KConf}
 use Rattle.it_types.specs.declared.kernel_request.KReq.{KReq}
 use Rattle.it_types.specs.declared.request.Req.{Req}
-use Rattle.it_types.specs.Callers.{caller}
+use Rattle.it_types.specs.Callers.{nobody}
 use Rattle.it_types.specs.Requests.{kernel_of, timeout_of}
 use Rattle.spec_lists.specs.Tables.{get}
-use Rattle.spec_kernel.specs.declared.wait.WaitFor.{WaitFor}
-use Rattle.spec_kernel.specs.declared.wait.WaitFor.TheVariants as targets
-use Rattle.spec_kernel.specs.PlainKernel.{PlainKernel}
-use Rattle.spec_kernel.specs.Settle.{Outcome, settled}
-use Rattle.spec_kernel.specs.Rows.{deadline_of, waiting, row, call}
+use Rattle.spec_lists.specs.Counting.{one_if}
+use Rattle.spec_lists.proofs.Counting.{times-end}
+use Rattle.spec_kernel.specs.declared.outcome.KAns.TheVariants as kernel_answers
+use Rattle.spec_kernel.specs.declared.reason.WaitReason.TheVariants as reasons
+use Rattle.spec_kernel.specs.declared.reason.WaitingCall.{WaitingCall}
+use Rattle.spec_kernel.specs.PlainTasks.{running}
+use Rattle.spec_kernel.specs.PlainKernel.{PlainKernel, tasks_of}
+use Rattle.spec_kernel.specs.Settle.{Outcome}
 use Rattle.spec_kernel.specs.Rows as kernel_rows
+use Rattle.spec_kernel.specs.Time.{blocked}
 use Rattle.spec_kernel.specs.Opening.{IsDeclarable}
-use Rattle.spec_kernel.proofs.RowActs.{row_acts}
+use Rattle.spec_kernel.specs.Standing.{waiting_number}
 use Rattle.spec_net.specs.declared.pending.NetCall.{NetCall}
+use Rattle.spec_net.specs.declared.pending.PendingRequest.{PendingRequest}
 use Rattle.spec_net.specs.declared.outcome.NetAnswer.{NetAnswer}
 use Rattle.spec_net.specs.declared.outcome.NetAnswer.TheVariants as net_answers
-use Rattle.spec_net.specs.PlainNet.{NetOutcome}
-use Rattle.spec_net.specs.Packets.{arrived_in}
+use Rattle.spec_net.specs.PlainNet.{PlainNet, NetOutcome}
+use Rattle.spec_net.specs.Packets.{Arrived, arrived_in}
 use Rattle.spec_net.specs.NetSettle.{net_settled}
 use Rattle.spec_net.specs.UdpRows as net_rows
 use Rattle.spec_net.specs.Arrival.{after_arrival, quiet, arrive}
-use Rattle.spec_node.specs.declared.held.Held.{Held}
 use Rattle.spec_node.specs.declared.event.NodeEvent.{NodeEvent}
 use Rattle.spec_node.specs.declared.event.NodeEvent.TheVariants.{Call, Return, Tick, Arrive}
-use Rattle.spec_node.specs.PlainNode.{PlainNode, opened_node, holds_answer}
-use Rattle.spec_node.specs.Progress.{Progress, woken_by, after_kernel, timed_out}
-use Rattle.spec_node.specs.NodeStep.{beginning, blocked_where, net_answer, drawn, kernel_called, network_called, called_as, arrived, ticked, returned, node_step}
+use Rattle.spec_node.specs.PlainNode.{PlainNode, opened_node, running_task, holds_answer}
+use Rattle.spec_node.specs.Progress.{Progress, after_net, after_kernel, timed_out}
+use Rattle.spec_node.specs.NodeStep.{beginning, node_after, blocked_where, kernel_answer, net_answer, drawn, kernel_called, network_called, called_as, arrived, ticked, returned, node_step}
 use Rattle.spec_node.specs.Admitted.{is_running, is_admitted}
-use Rattle.laws_kernel.specs.Runnable.{one_if, times_listed, times_waiting}
-use Rattle.laws_kernel.proofs.Counting.{waiting_end}
-use Rattle.laws_kernel.proofs.Rising.{AllAbove, Rises}
-use Rattle.laws_kernel.proofs.Standing.{is_exact}
-use Rattle.laws_kernel.proofs.Urgent.{running_listed}
-use Rattle.laws_kernel.proofs.Ranked.{MayCall}
+use Rattle.laws_kernel.specs.Calling.{Calls}
+use Rattle.laws_kernel.proofs.Stands.{blocked_stands}
+use Rattle.laws_kernel.proofs.Numbers.{call-last_call, tick-last_call}
 use Rattle.laws_kernel.proofs.Opened.{opened_stands}
-use Rattle.laws_node.specs.Agreement.{AreAbove, AreInOrder, PartsAgree, taken, AgreeAlong}
-use Rattle.laws_node.proofs.NetMoves.{call_number, row_does}
-use Rattle.laws_node.proofs.KernelMoves.{row_ends, call_inside, settle_inside}
+use Rattle.laws_node.specs.Agreement.{times, AreAbove, AreInOrder, PartsAgree, taken, AgreeAlong, is_outside_call, is_net_call}
+use Rattle.laws_node.proofs.Rising.{AllAbove, AllBelow, Rises, rises_end, below_end, below_more}
+use Rattle.laws_node.proofs.Times.{times_end}
+use Rattle.laws_node.proofs.NetMoves.{call_number, Does, row_does}
+use Rattle.laws_node.proofs.KernelMoves.{Grows, call_grows, call_moves, tick_moves, tick_fewer}
 use Rattle.laws_node.proofs.Waking.{Sound, net_settled_sound}
-use Rattle.laws_node.proofs.Agreeing.{SoundNode, settle_sound, after_kernel_sound, arrival_sound, call_stands, row_sound, may_call, step_sound}
-use Rattle.laws_node.proofs.Holders.{HoldersFree, AllFree, AreListed, net_free, listed_free, holders_fewer, holding_free, settle_fewer, settle_ends_listed, settle_ends_free, kernel_taken_over, timed_out_free}
+use Rattle.laws_node.proofs.TakingOver.{Taken, net_taken, kernel_taken, timed_out_taken}
+use Rattle.laws_node.proofs.Holders.{HoldersFree, holders_fewer, holders_grown, dropped_free, held_free}
 
--- ---- a call makes its own task wait at most
+pub record Holds (n : PlainNode) : Type 0 where
+  pub sound : Sound n.kernel n.net n.calls
+  pub free : HoldersFree n.held n.kernel.waits
 
-abbrev Grows : PlainKernel → TaskId → PlainKernel → Type 0
-Grows k t after = (id : ℕ) → times_waiting id after.waits ≤ times_waiting id k.waits + one_if (t.0 == id)
+done_holds : (n : PlainNode) (answer : Ans) (gone : TaskId) (p : Progress) (before : List WaitingCall) → Taken before p (n.calls + drawn answer) → HoldersFree n.held before → Holds (node_after n answer gone p)
+done_holds n answer gone p before t free = record { sound = t.sound; free = held_free p.ends gone n.held p.kernel.waits t.free (holders_fewer n.held before p.kernel.waits t.fewer free) }
 
-waiting_grows : (k : PlainKernel) (task : TaskId) (target : WaitFor) (tmo : Tmo) (number : CallNo) → Grows k task (waiting k task target tmo number).kernel
-waiting_grows k task target tmo number id =
-    omega (arith, waiting_end id k.waits (record { call = number; task = task; target = target; deadline = deadline_of k.now tmo }))
+-- ---- who calls
 
-row_grows : (k : PlainKernel) (ctx : Ctx) (request : KReq) (number : CallNo) → Grows k (caller ctx) (row k ctx request number).kernel
-row_grows k ctx request number = row_acts (λ o. Grows k (caller ctx) o.kernel) (record {
-  answers = λ code id. omega arith;
-  counts = λ semaphores id. omega arith;
-  waits = λ task target tmo inside. waiting_grows k (caller ctx) target tmo number;
-  exits = λ task id. omega arith;
-}) request
+module _ (n : PlainNode) (task : TaskId) (runs : is_running n task ≡ true) where
+  somebody : task.0 ≢ 0
+  somebody z = absurd (let f : not true ≡ true = ap not (sym (eq-eqb task.0 0 z)) ∙ (and_parts (not (task.0 == 0)) ((running_task n).0 == task.0) runs).0 in cc)
 
-call_grows : (k : PlainKernel) (ctx : Ctx) (request : KReq) (number : CallNo) → Grows k (caller ctx) (call k ctx request number).kernel
-unfolding call settled
-call_grows k ctx request number id =
-    let o : Outcome = row k ctx request number in
-    omega (arith, settle_fewer (length o.kernel.waits) o.kernel id, row_grows k ctx request number id)
+  is_the_running : running (tasks_of n.kernel) ≡ task
+  is_the_running = ap (λ i. record { 0 = i }) (eqb-true _ _ (and_parts (not (task.0 == 0)) ((running_task n).0 == task.0) runs).1)
 
-call_ends_listed : (k : PlainKernel) (ctx : Ctx) (request : KReq) (number : CallNo) → AreListed (call k ctx request number).ends (call k ctx request number).kernel.runnable
-unfolding call settled
-call_ends_listed k ctx request number = let o : Outcome = row k ctx request number in rw (row_ends k ctx request number) (settle_ends_listed (length o.kernel.waits) o.kernel)
+  pub calls_itself : Calls n.kernel (contexts.Task task)
+  calls_itself t e = subst (λ u. (u.0 ≢ 0) × (running (tasks_of n.kernel) ≡ u)) (same t e) (somebody, is_the_running)
+    where
+      same : (t : TaskId) → contexts.Task task ≡ contexts.Task t → task ≡ t
+      same t e = cc
 
-blocked_grows : (answer : NetAnswer) (k : PlainKernel) (t : TaskId) (request : Req) (number : CallNo) → Grows k t (blocked_where answer k (contexts.Task t) request number)
-blocked_grows net_answers.Pends k t request number id = waiting_grows k t targets.Outside (timeout_of request) number id
+-- ---- calls of the kernel
+
+answer_numbers : (k : PlainKernel) (calls : ℕ) (o : Outcome)
+    → k.last_call ≤ calls
+    → ((o.answer ≡ kernel_answers.Pends) × (o.kernel.last_call ≡ calls + 1)) ⊎ ((o.answer ≢ kernel_answers.Pends) × (o.kernel.last_call ≡ k.last_call))
+    → o.kernel.last_call ≤ calls + drawn (kernel_answer (calls + 1) o.answer)
+answer_numbers k calls o le (inl h) = rw h.0 (omega (arith, h.1))
+answer_numbers k calls o le (inr h) = omega (arith, h.1, le)
+
+kernel_called_holds : (n : PlainNode) (t : TaskId) (request : KReq) → Calls n.kernel (contexts.Task t) → is_some (get n.held t.0) ≡ false → Holds n → Holds (kernel_called n (contexts.Task t) request).0
+unfolding kernel_called
+kernel_called_holds n t request calls none h =
+    let number : CallNo = record { 0 = n.calls + 1 } in
+    let o : Outcome = kernel_rows.call n.kernel (contexts.Task t) request number in
+    let answer : Ans = kernel_answer (n.calls + 1) o.answer in
+    done_holds n answer o.gone (after_kernel (beginning n) o) o.kernel.waits
+    (kernel_taken (beginning n) o n.calls (n.calls + drawn answer) h.sound (omega arith) (answer_numbers n.kernel n.calls o h.sound.last (call-last_call n.kernel (contexts.Task t) request number h.sound.stands calls)) tt (call_moves n.kernel (contexts.Task t) request number h.sound.stands calls))
+    (holders_grown n.held n.kernel.waits o.kernel.waits t none (call_grows n.kernel (contexts.Task t) request number) h.free)
+
+-- ---- calls of the network part
+
+blocked_grows : (answer : NetAnswer) (k : PlainKernel) (t : TaskId) (request : Req) (number : CallNo) → Grows t.0 k.waits (blocked_where answer k (contexts.Task t) request number).waits
+blocked_grows net_answers.Pends k t request number id = omega (arith, times-end waiting_number id k.waits (kernel_rows.waiting_call k t reasons.Outside (timeout_of request) number))
 blocked_grows (net_answers.Now code bytes) k t request number id = omega arith
 blocked_grows net_answers.Quiet k t request number id = omega arith
 
--- the task that calls holds no answer
-grown_free : (held : List (Option Held)) (k after : PlainKernel) (t : TaskId) → is_some (get held t.0) ≡ false → Grows k t after → HoldersFree held k.waits → HoldersFree held after.waits
-grown_free held k after t none grows h id there = elim (cases_eq t.0 id) [
-  | inl same ↦ absurd (let f : true ≡ false = sym there ∙ ap (λ i. is_some (get held i)) (sym same) ∙ none in cc)
-  | inr other ↦ omega (arith, grows id, h id there, ap one_if (ne_eqb t.0 id other))
-]
+-- the call waits in both parts under the same number
+waits_sound : (k : PlainKernel) (net after : PlainNet) (calls : ℕ) (t : TaskId) (tmo : Tmo) (w : PendingRequest)
+    → Sound k net calls
+    → t.0 ≢ 0
+    → running (tasks_of k) ≡ t
+    → after.calls ≡ net.calls ++ record { call = record { 0 = calls + 1 }; who = t; request = w } ∷ []
+    → Sound (blocked k t tmo (record { 0 = calls + 1 })) after (calls + 1)
+waits_sound k net after calls t tmo w h some runs e =
+    let number : CallNo = record { 0 = calls + 1 } in
+    let new : NetCall = record { call = number; who = t; request = w } in
+    let wait : WaitingCall = kernel_rows.waiting_call k t reasons.Outside tmo number in
+    record {
+      stands = blocked_stands k t tmo number some runs h.stands;
+      last = omega arith;
+      same = λ m i. times_end (is_outside_call m i) k.waits wait ∙ ap (λ x. x + one_if (is_net_call m i new)) (h.same m i) ∙ sym (times_end (is_net_call m i) net.calls new) ∙ ap (times (is_net_call m i)) (sym e);
+      rises = subst (Rises call_number) (sym e) (rises_end call_number net.calls new h.rises h.below);
+      below = subst (AllBelow call_number (calls + 1 + 1)) (sym e) (below_end call_number (calls + 1 + 1) net.calls new (below_more call_number (calls + 1) (calls + 1 + 1) net.calls (omega arith) h.below) (omega arith));
+    }
 
--- ---- the events
+-- the call is answered at once
+now_sound : (k : PlainKernel) (net after : PlainNet) (calls : ℕ) → Sound k net calls → after.calls ≡ net.calls → Sound k after calls
+now_sound k net after calls h e = record {
+  stands = h.stands;
+  last = h.last;
+  same = λ m i. h.same m i ∙ ap (times (is_net_call m i)) (sym e);
+  rises = subst (Rises call_number) (sym e) h.rises;
+  below = subst (AllBelow call_number (calls + 1)) (sym e) h.below;
+}
 
-abbrev pub NodeFree : PlainNode → Type 0
-NodeFree n = HoldersFree n.held n.kernel.waits
+no_more : (n : PlainNode) → Sound n.kernel n.net n.calls → Sound n.kernel n.net (n.calls + 0)
+no_more n h = subst (Sound n.kernel n.net) (omega arith) h
 
-kernel_called_free : (n : PlainNode) (t : TaskId) (request : KReq) → MayCall n.kernel (contexts.Task t) → is_some (get n.held t.0) ≡ false → SoundNode n → NodeFree n → NodeFree (kernel_called n (contexts.Task t) request).0
-unfolding kernel_called after_kernel
-kernel_called_free n t request may none h free =
-    let number : CallNo = record { 0 = n.calls + 1 } in
-    let o : Outcome = call n.kernel (contexts.Task t) request number in
-    let ends = listed_free o.ends o.kernel (call_stands n.kernel (contexts.Task t) request number h.stands (omega (arith, h.last)) may) (call_ends_listed n.kernel (contexts.Task t) request number) in
-    let taken_over = kernel_taken_over (record (beginning n) { kernel = o.kernel }) o (call_inside n.kernel (contexts.Task t) request number) (λ id. omega arith) tt ends in
-    let p : Progress = after_kernel (beginning n) o in
-    holding_free p.ends n.held p.kernel.waits (same_free n o taken_over.free) (holders_fewer n.held o.kernel.waits p.kernel.waits (same_fewer n o taken_over.fewer) (grown_free n.held n.kernel o.kernel t none (call_grows n.kernel (contexts.Task t) request number) free))
-  where
-    same_free : (n : PlainNode) (o : Outcome)
-        → AllFree (after_kernel (record (beginning n) { kernel = o.kernel }) o).ends (after_kernel (record (beginning n) { kernel = o.kernel }) o).kernel.waits
-        → AllFree (after_kernel (beginning n) o).ends (after_kernel (beginning n) o).kernel.waits
-    same_free n o h = h
+row_sound : (n : PlainNode) (t : TaskId) (request : Req) (o : NetOutcome)
+    → Sound n.kernel n.net n.calls
+    → t.0 ≢ 0
+    → running (tasks_of n.kernel) ≡ t
+    → Does n.net (contexts.Task t) (record { 0 = n.calls + 1 }) o
+    → Sound (blocked_where o.answer n.kernel (contexts.Task t) request (record { 0 = n.calls + 1 })) o.net (n.calls + drawn (net_answer (n.calls + 1) o.answer))
+row_sound n t request o h some runs (none, inl p) = rw p.0 (waits_sound n.kernel n.net o.net n.calls t (timeout_of request) p.1.0 h some runs p.1.1)
+row_sound n t request o h some runs (none, inr p) = rw p.2 (now_sound n.kernel n.net o.net (n.calls + 0) (no_more n h) p.3)
 
-    same_fewer : (n : PlainNode) (o : Outcome)
-        → ((id : ℕ) → times_waiting id (after_kernel (record (beginning n) { kernel = o.kernel }) o).kernel.waits ≤ times_waiting id o.kernel.waits)
-        → (id : ℕ) → times_waiting id (after_kernel (beginning n) o).kernel.waits ≤ times_waiting id o.kernel.waits
-    same_fewer n o h = h
-
-network_called_free : (n : PlainNode) (t : TaskId) (request : Req) → 1 ≤ times_listed t.0 n.kernel.runnable → is_some (get n.held t.0) ≡ false → SoundNode n → NodeFree n → NodeFree (network_called n (contexts.Task t) request).0
+network_called_holds : (n : PlainNode) (t : TaskId) (request : Req) → t.0 ≢ 0 → running (tasks_of n.kernel) ≡ t → is_some (get n.held t.0) ≡ false → Holds n → Holds (network_called n (contexts.Task t) request).0
 unfolding network_called net_rows.net_call net_settled
-network_called_free n t request listed none h free =
+network_called_holds n t request some runs none h =
     let number : CallNo = record { 0 = n.calls + 1 } in
     let o : NetOutcome = net_rows.row n.net (contexts.Task t) request number in
     let does = row_does n.net (contexts.Task t) request number in
+    let answer : Ans = net_answer (n.calls + 1) o.answer in
     let begun : PlainKernel = blocked_where o.answer n.kernel (contexts.Task t) request number in
-    let after = net_settled_sound begun o (n.calls + drawn (net_answer (n.calls + 1) o.answer)) does.0 (row_sound n t request o h listed does) in
-    let waits = (woken_by begun (net_settled o).ends).waits in
-    holding_free _ n.held waits (net_free (net_settled o).ends waits after.free) (holders_fewer n.held begun.waits waits after.fewer (grown_free n.held n.kernel begun t none (blocked_grows o.answer n.kernel t request number) free))
+    let start : Progress = record (beginning n) { kernel = begun } in
+    let after = net_settled_sound begun o (n.calls + drawn answer) does.0 (row_sound n t request o h.sound some runs does) in
+    done_holds n answer nobody (after_net start (net_settled o)) begun.waits (net_taken start begun (net_settled o).ends (after_net start (net_settled o)) (n.calls + drawn answer) refl tt after)
+    (holders_grown n.held n.kernel.waits begun.waits t none (blocked_grows o.answer n.kernel t request number) h.free)
 
-arrived_free : (n : PlainNode) (bytes : List ℕ) → SoundNode n → NodeFree n → NodeFree (arrived n bytes).0
+-- ---- the other events
+
+arrival_sound : (k : PlainKernel) (net : PlainNet) (calls : ℕ) (a : Option Arrived) → Sound k net calls → Sound k (after_arrival net a) calls
+arrival_sound k net calls None h = h
+arrival_sound k net calls (Some a) h = record { stands = h.stands; last = h.last; same = h.same; rises = h.rises; below = h.below }
+
+arrived_holds : (n : PlainNode) (bytes : List ℕ) → Holds n → Holds (arrived n bytes).0
 unfolding arrived arrive
-arrived_free n bytes h free =
+arrived_holds n bytes h =
     let o : NetOutcome = quiet (after_arrival n.net (arrived_in n.net.addr bytes)) in
-    let after = net_settled_sound n.kernel o n.calls refl (arrival_sound n.kernel n.net n.calls (arrived_in n.net.addr bytes) h) in
-    let waits = (woken_by n.kernel (net_settled o).ends).waits in
-    holding_free _ n.held waits (net_free (net_settled o).ends waits after.free) (holders_fewer n.held n.kernel.waits waits after.fewer free)
+    let after = net_settled_sound n.kernel o (n.calls + 0) refl (arrival_sound n.kernel n.net (n.calls + 0) (arrived_in n.net.addr bytes) (no_more n h.sound)) in
+    done_holds n answers.Quiet nobody (after_net (beginning n) (net_settled o)) n.kernel.waits (net_taken (beginning n) n.kernel (net_settled o).ends (after_net (beginning n) (net_settled o)) (n.calls + 0) refl tt after) h.free
 
-ticked_free : (n : PlainNode) → SoundNode n → NodeFree n → NodeFree (ticked n).0
-unfolding ticked kernel_rows.tick settled
-ticked_free n h free =
-    let k : PlainKernel = kernel_rows.ticked n.kernel in
-    let later : Sound k n.net n.calls = record { stands = h.stands; last = h.last; same = h.same; rises = h.rises; below = h.below } in
-    let o : Outcome = settled (kernel_rows.quiet k) in
-    let inside = settle_inside (length k.waits) k in
-    let first = kernel_taken_over (beginning n) o inside (settle_fewer (length k.waits) k) tt (settle_ends_free (length k.waits) k later.stands) in
-    let sound = after_kernel_sound (beginning n) o n.calls inside (settle_sound (length k.waits) k n.net n.calls later) in
-    let all = timed_out_free (after_kernel (beginning n) o) n.calls sound first.free in
-    let p : Progress = timed_out (after_kernel (beginning n) o) in
-    holding_free p.ends n.held p.kernel.waits all.free (holders_fewer n.held n.kernel.waits p.kernel.waits (λ id. omega (arith, first.fewer id, all.fewer id)) free)
+ticked_holds : (n : PlainNode) → Holds n → Holds (ticked n).0
+unfolding ticked
+ticked_holds n h =
+    let o : Outcome = kernel_rows.tick n.kernel in
+    let first = kernel_taken (beginning n) o n.calls (n.calls + 0) h.sound (omega arith) (omega (arith, h.sound.last, tick-last_call n.kernel)) tt (tick_moves n.kernel h.sound.stands) in
+    done_holds n answers.Quiet nobody (timed_out (after_kernel (beginning n) o)) o.kernel.waits (timed_out_taken (after_kernel (beginning n) o) o.kernel.waits (n.calls + 0) first)
+    (holders_fewer n.held n.kernel.waits o.kernel.waits (tick_fewer n.kernel) h.free)
 
-cleared : (held : List (Option Held)) (i : ℕ) → is_some (get (slice_set held i None) i) ≡ false
-cleared [] zero = refl
-cleared [] (suc i) = refl
-cleared (x ∷ xs) zero = refl
-cleared (x ∷ xs) (suc i) = cleared xs i
-
-returned_free : (n : PlainNode) (task : TaskId) → NodeFree n → NodeFree (returned n task).0
+returned_holds : (n : PlainNode) (task : TaskId) → Holds n → Holds (returned n task).0
 unfolding returned
-returned_free n task free id there = elim (cases_eq id task.0) [
-  | inl same ↦ absurd (let f : true ≡ false = sym there ∙ ap (λ i. is_some (get (slice_set n.held task.0 None) i)) same ∙ cleared n.held task.0 in cc)
-  | inr other ↦ free id (sym (ap is_some (get_or-set_other n.held task.0 id None None other)) ∙ there)
-]
+returned_holds n task h = record { sound = h.sound; free = dropped_free n.held task n.kernel.waits h.free }
 
-called_free : (n : PlainNode) (t : TaskId) (request : Req) (call : Option KReq)
-    → is_running n t ≡ true
-    → is_some (get n.held t.0) ≡ false
-    → SoundNode n
-    → NodeFree n
-    → NodeFree (called_as n (contexts.Task t) request call).0
-called_free n t request (Some call) runs none h free = kernel_called_free n t call (may_call n t runs) none h free
-called_free n t request None runs none h free =
-    let may = may_call n t runs in network_called_free n t request (running_listed n.kernel.tasks n.kernel.runnable t may.0 may.1) none h free
-
-step_free : (n : PlainNode) (event : NodeEvent) → SoundNode n → NodeFree n → is_admitted n event ≡ true → NodeFree (node_step n event).0
-unfolding node_step
-step_free n (Call (contexts.Task task) request) h free e =
-    let parts = and_parts (is_running n task) (not (holds_answer n task)) e in called_free n task request (kernel_of request) parts.0 (not-true (holds_answer n task) parts.1) h free
-step_free n (Call contexts.Handler request) h free e = absurd cc
-step_free n (Return task) h free e = returned_free n task free
-step_free n Tick h free e = ticked_free n h free
-step_free n (Arrive bytes) h free e = arrived_free n bytes h free
-
--- ---- any list of events
-
-pub record Holds (n : PlainNode) : Type 0 where
-  pub sound : SoundNode n
-  pub free : NodeFree n
+called_holds : (n : PlainNode) (t : TaskId) (request : Req) (call : Option KReq) → is_running n t ≡ true → is_some (get n.held t.0) ≡ false → Holds n → Holds (called_as n (contexts.Task t) request call).0
+called_holds n t request (Some call) runs none h = kernel_called_holds n t call (calls_itself n t runs) none h
+called_holds n t request None runs none h = network_called_holds n t request (somebody n t runs) (is_the_running n t runs) none h
 
 -- each admitted event keeps it
 pub step_holds : (n : PlainNode) (event : NodeEvent) → is_admitted n event ≡ true → Holds n → Holds (node_step n event).0
-step_holds n event e h = record { sound = step_sound n event h.sound e; free = step_free n event h.sound h.free e }
+unfolding node_step
+step_holds n (Call (contexts.Task task) request) e h =
+    let parts = and_parts (is_running n task) (not (holds_answer n task)) e in called_holds n task request (kernel_of request) parts.0 (not-true (holds_answer n task) parts.1) h
+step_holds n (Call contexts.Handler request) e h = absurd cc
+step_holds n (Return task) e h = returned_holds n task h
+step_holds n Tick e h = ticked_holds n h
+step_holds n (Arrive bytes) e h = arrived_holds n bytes h
+
+-- ---- any list of events
 
 taken_holds : (n : PlainNode) (event : NodeEvent) → Holds n → Holds (taken n event)
 taken_holds n event h = go (is_admitted n event) (λ e. step_holds n event e h)
@@ -205,7 +214,7 @@ in_order (c ∷ cs) h = (above c.call.0 cs h.0, in_order cs h.1)
     above m (d ∷ ds) g = (g.0, above m ds g.1)
 
 pub agree : (n : PlainNode) → Holds n → PartsAgree n
-agree n h = record { same = h.sound.same; in_order = in_order n.net.calls h.sound.rises; runnable = is_exact n.kernel h.sound.stands.1.balanced; holders = h.free }
+agree n h = record { same = h.sound.same; in_order = in_order n.net.calls h.sound.rises; standing = h.sound.stands; holders = h.free }
 
 agree_along : (n : PlainNode) (es : List NodeEvent) → Holds n → AgreeAlong n es
 agree_along n [] h = agree n h
@@ -214,7 +223,7 @@ agree_along n (e ∷ es) h = (agree n h, agree_along (taken n e) es (taken_holds
 pub opening_holds : (conf : KConf) (addr : ℕ) → IsDeclarable conf → Holds (opened_node conf addr)
 opening_holds conf addr can = record {
   sound = record {
-    stands = (_, opened_stands conf can);
+    stands = opened_stands conf can;
     last = omega arith;
     same = λ m i. refl;
     rises = tt;

@@ -30,8 +30,8 @@ use Rattle.spec_net.specs.UdpRows.{is_receive_at, row, net_call}
 use Rattle.spec_net.specs.Arrival.{joined, given, delivered, after_arrival, quiet, arrive}
 use Rattle.spec_net.specs.NetEnds.{has_number, numbered, ended_at, ended}
 use Rattle.spec_net.proofs.NetActs.{row_acts}
-use Rattle.laws_kernel.specs.Runnable.{one_if}
-use Rattle.laws_kernel.proofs.Counting.{one_at_most}
+use Rattle.spec_lists.specs.Counting.{one_if}
+use Rattle.spec_lists.proofs.Counting.{one_if-at_most}
 use Rattle.laws_node.specs.Agreement.{times}
 use Rattle.laws_node.specs.EndPoints.{PointsAreKept}
 use Rattle.laws_node.proofs.Times.{times_end, times_found}
@@ -184,7 +184,7 @@ waiting_kept net task cep len number h there none = record { ports = h.ports; qu
       | inl same ↦ (
           let zero : times (is_receive_at at) net.calls ≡ 0 = ap (λ i. times (is_receive_at (record { 0 = i })) net.calls) (sym same) ∙ none_at (is_receive_at cep) net.calls none in
           let one : one_if (is_some (get net.udp at.0)) ≡ 1 = ap (λ i. one_if (is_some (get net.udp i))) (sym same) ∙ there_one (get net.udp cep.0) there in
-          omega (arith, times_end (is_receive_at at) net.calls new, zero, one, one_at_most (is_receive_at at new))
+          omega (arith, times_end (is_receive_at at) net.calls new, zero, one, one_if-at_most (is_receive_at at new))
           )
       | inr other ↦ (
           let zero : one_if (is_receive_at at new) ≡ 0 = ap one_if (ne_eqb cep.0 at.0 other) in
@@ -232,7 +232,7 @@ made_kept net cep p h none free empty = record { ports = ports; queues = queues;
     ports n = elim (cases_eq p.port n) [
       | inl same ↦ (
           let zero : times (has_port n) net.udp ≡ 0 = ap (λ m. times (has_port m) net.udp) (sym same) ∙ none_at (has_port p.port) net.udp free in
-          omega (arith, times_made (has_port n) net.udp cep.0 (Some p), zero, one_at_most (p.port == n))
+          omega (arith, times_made (has_port n) net.udp cep.0 (Some p), zero, one_if-at_most (p.port == n))
           )
       | inr other ↦ (
           let zero : one_if (p.port == n) ≡ 0 = ap one_if (ne_eqb p.port n other) in

@@ -9,9 +9,8 @@ use Rattle.it_types.specs.Requests.{kernel_of}
 use Rattle.spec_lists.proofs.Firsts.{cases_of_first}
 use Rattle.spec_kernel.specs.declared.outcome.KEnd.{KEnd}
 use Rattle.spec_kernel.specs.Settle.{Outcome}
-use Rattle.spec_kernel.specs.Deadlines.{next_past, ended_by_time}
+use Rattle.spec_kernel.specs.Time.{due}
 use Rattle.spec_kernel.specs.Rows as kernel_rows
-use Rattle.spec_kernel.proofs.Timing.{next_past_none, due_none, due_some}
 use Rattle.spec_node.specs.declared.event.NodeEvent.{NodeEvent}
 use Rattle.spec_node.specs.declared.event.NodeEvent.TheVariants.{Call, Return, Tick, Arrive}
 use Rattle.spec_node.specs.PlainNode.{PlainNode, opened_node}
@@ -37,9 +36,9 @@ after_kernel_kept p o h = after_ends_kept (record p { kernel = o.kernel }) o.end
 time_out_kept : (n : ℕ) (p : Progress) → PointsAreKept p.net → PointsAreKept (time_out n p).net
 unfolding time_out
 time_out_kept zero p h = h
-time_out_kept (suc n) p h = elim (cases_of_first (next_past p.kernel)) [
-  | inl e ↦ rw (due_none p.kernel (next_past_none p.kernel e)) h
-  | inr x ↦ rw (due_some p.kernel x.0 x.1) (time_out_kept n (after_kernel p (ended_by_time p.kernel x.0)) (after_kernel_kept p (ended_by_time p.kernel x.0) h))
+time_out_kept (suc n) p h = elim (cases_of_first (due p.kernel)) [
+  | inl e ↦ rw e h
+  | inr o ↦ rw o.1 (time_out_kept n (after_kernel p o.0) (after_kernel_kept p o.0 h))
 ]
 
 timed_out_kept : (p : Progress) → PointsAreKept p.net → PointsAreKept (timed_out p).net

@@ -1,10 +1,12 @@
-pub mod Rest
+pub mod Rising
 pub mod Times
 pub mod NetMoves
 pub mod KernelMoves
 pub mod Waking
-pub mod Agreeing
-pub mod Keeping
-pub mod Kept
+pub mod TakingOver
 pub mod Holders
 pub mod Along
+pub mod Progressing
+pub mod Rest
+pub mod Keeping
+pub mod Kept

@@ -25,8 +25,8 @@ use Rattle.spec_net.specs.NetSettle.{is_ready, first_ready, received_end, end_fo
 use Rattle.spec_net.specs.UdpRows.{row}
 use Rattle.spec_net.specs.NetEnds.{has_number}
 use Rattle.spec_net.proofs.NetActs.{row_acts}
-use Rattle.laws_kernel.specs.Runnable.{one_if}
-use Rattle.laws_kernel.proofs.Rising.{AllAbove, AllBelow, Rises, rises_found, below_found}
+use Rattle.spec_lists.specs.Counting.{one_if}
+use Rattle.laws_node.proofs.Rising.{AllAbove, AllBelow, Rises, rises_found, below_found}
 use Rattle.laws_node.specs.Agreement.{times, is_net_call}
 use Rattle.laws_node.proofs.Times.{times_found, is_one}
 

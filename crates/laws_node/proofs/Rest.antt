@@ -9,8 +9,8 @@ use Rattle.it_types.specs.declared.request.Req.{Req}
 use Rattle.it_types.specs.Requests.{kernel_of}
 use Rattle.spec_kernel.specs.Settle.{Outcome}
 use Rattle.spec_kernel.specs.Rows as kernel_rows
-use Rattle.spec_kernel.proofs.Settling.{call_rests, settled_rests}
-use Rattle.spec_kernel.proofs.Timing.{call_none_past}
+use Rattle.laws_kernel.proofs.Settling.{call_rests, tick_rests}
+use Rattle.laws_kernel.proofs.Unpast.{call_none_past}
 use Rattle.spec_net.specs.PlainNet.{NetOutcome}
 use Rattle.spec_net.specs.UdpRows.{net_call}
 use Rattle.spec_net.specs.Arrival.{arrive}
@@ -20,7 +20,7 @@ use Rattle.spec_node.specs.declared.event.NodeEvent.TheVariants.{Call, Return, T
 use Rattle.spec_node.specs.PlainNode.{PlainNode, opened_node}
 use Rattle.spec_node.specs.Progress.{after_kernel}
 use Rattle.spec_node.specs.NodeStep.{beginning, blocked_where, kernel_called, network_called, called_as, arrived, ticked, returned, node_step}
-use Rattle.spec_node.proofs.Progressing.{woken_by_rests, woken_by_none_past, blocked_where_rests, blocked_where_none_past, after_kernel_rests, after_kernel_none_past, timed_out_rests, timed_out_none_past}
+use Rattle.laws_node.proofs.Progressing.{woken_by_rests, woken_by_none_past, blocked_where_rests, blocked_where_none_past, after_kernel_rests, after_kernel_none_past, timed_out_rests, timed_out_none_past}
 use Rattle.laws_node.specs.AtRest.{NodeRests, RestsAlong}
 use Rattle.laws_node.proofs.Kept.{kernel_called_kept, network_called_kept, step_kept, kept_from_opening}
 
@@ -63,10 +63,10 @@ unfolding returned
 returned_rests n task rest = record { none_ready = rest.none_ready; none_past = rest.none_past; none_ready_in_net = rest.none_ready_in_net; points = rest.points }
 
 ticked_rests : (n : PlainNode) → NodeRests n → NodeRests (ticked n).0
-unfolding node_step ticked kernel_rows.tick
+unfolding node_step ticked
 ticked_rests n rest =
     let o : Outcome = kernel_rows.tick n.kernel in
-    let parts = timed_out_rests (after_kernel (beginning n) o) (after_kernel_rests (beginning n) o (settled_rests (kernel_rows.quiet (kernel_rows.ticked n.kernel))) rest.none_ready_in_net) in
+    let parts = timed_out_rests (after_kernel (beginning n) o) (after_kernel_rests (beginning n) o (tick_rests n.kernel) rest.none_ready_in_net) in
     record {
       none_ready = parts.kernel;
       none_past = timed_out_none_past (after_kernel (beginning n) o);

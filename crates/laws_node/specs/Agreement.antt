@@ -2,9 +2,11 @@
 -- those that aren't admitted change nothing. It is this project's own.
 use Rattle.std.specs.Prelude.{◌≡◌, ℕ, ◌+◌, ◌<◌, Bool, true, false, ◌&&◌, List, [], ◌∷◌, ◌==◌, is_some}
 use Rattle.spec_lists.specs.Tables.{get}
-use Rattle.spec_kernel.specs.declared.wait.Wait.{Wait}
-use Rattle.spec_kernel.specs.Deadlines.{is_outside}
-use Rattle.laws_kernel.specs.Runnable.{one_if, times_waiting, IsExact}
+use Rattle.spec_lists.specs.Counting.{one_if}
+use Rattle.spec_lists.specs.Counting.{times as times_numbered}
+use Rattle.spec_kernel.specs.declared.reason.WaitingCall.{WaitingCall}
+use Rattle.spec_kernel.specs.Settle.{is_outside}
+use Rattle.spec_kernel.specs.Standing.{waiting_number, IsStanding}
 use Rattle.spec_net.specs.declared.pending.NetCall.{NetCall}
 use Rattle.spec_node.specs.declared.event.NodeEvent.{NodeEvent}
 use Rattle.spec_node.specs.PlainNode.{PlainNode}
@@ -16,9 +18,13 @@ abbrev pub times : {X : Type 0} → (X → Bool) → List X → ℕ
 times p [] = 0
 times p (x ∷ xs) = one_if (p x) + times p xs
 
+-- how many calls of the task wait
+abbrev pub times_waiting : ℕ → List WaitingCall → ℕ
+times_waiting id ws = times_numbered waiting_number id ws
+
 -- the call of this number, with which this task waits outside the kernel
-abbrev pub is_outside_call : ℕ → ℕ → Wait → Bool
-is_outside_call number id w = is_outside w.target && ((w.call.0 == number) && (w.task.0 == id))
+abbrev pub is_outside_call : ℕ → ℕ → WaitingCall → Bool
+is_outside_call number id w = is_outside w.reason && ((w.call.0 == number) && (w.task.0 == id))
 
 -- the call of this number, which this task made of the network part
 abbrev pub is_net_call : ℕ → ℕ → NetCall → Bool
@@ -35,12 +41,12 @@ AreInOrder [] = Unit {0}
 AreInOrder (c ∷ cs) = AreAbove c.call.0 cs × AreInOrder cs
 
 -- Each task that waits outside the kernel made the waiting call of the network part that has its number, and the other way
--- round. The list of runnable tasks has each active task that doesn't wait, once, and no task waits twice. A task that holds
--- an answer doesn't wait.
+-- round. The list of runnable tasks has each active task that is neither suspended nor waits, once, and no task waits twice. A
+-- task that holds an answer doesn't wait.
 pub record PartsAgree (n : PlainNode) : Type 0 where
   pub same : (number id : ℕ) → times (is_outside_call number id) n.kernel.waits ≡ times (is_net_call number id) n.net.calls
   pub in_order : AreInOrder n.net.calls
-  pub runnable : IsExact n.kernel
+  pub standing : IsStanding n.kernel
   pub holders : (id : ℕ) → is_some (get n.held id) ≡ true → times_waiting id n.kernel.waits ≡ 0
 
 -- the node after an event

@@ -2,7 +2,7 @@
 -- names an end point that isn't there; and at most one waits in each place. It is this project's own.
 use Rattle.std.specs.Prelude.{List, [], ◌∷◌}
 use Rattle.spec_kernel.specs.Settle.{AtRest}
-use Rattle.spec_kernel.specs.Deadlines.{NoneIsPast}
+use Rattle.spec_kernel.specs.Time.{NoneIsPast}
 use Rattle.spec_net.specs.NetSettle.{NetAtRest}
 use Rattle.spec_node.specs.declared.event.NodeEvent.{NodeEvent}
 use Rattle.spec_node.specs.PlainNode.{PlainNode}

@@ -2,7 +2,7 @@
 use Rattle.std.specs.Prelude.{ℕ, ◌≤◌, List, [], ◌∷◌, length, is_some}
 use Rattle.it_types.specs.declared.id.CepId.{CepId}
 use Rattle.spec_lists.specs.Tables.{get}
-use Rattle.laws_kernel.specs.Runnable.{one_if}
+use Rattle.spec_lists.specs.Counting.{one_if}
 use Rattle.spec_net.specs.PlainNet.{PlainNet, queue_limit}
 use Rattle.spec_net.specs.Ports.{has_port}
 use Rattle.spec_net.specs.Receiving.{queue_of}

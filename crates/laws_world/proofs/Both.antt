@@ -13,7 +13,7 @@ use Rattle.laws_node.specs.Agreement.{PartsAgree}
 use Rattle.laws_node.proofs.Along.{Holds, step_holds, agree, opening_holds}
 use Rattle.laws_node.proofs.Kept as points
 use Rattle.laws_world.specs.Taken.{CanOpen, taken, OfBoth, OfBothAlong}
-use Rattle.laws_world.specs.BothNodes.{HasExactTasks, HasKeptPoints, ExactAlong, AgreeAlong, KeptAlong}
+use Rattle.laws_world.specs.BothNodes.{Stands, HasKeptPoints, StandAlong, AgreeAlong, KeptAlong}
 use Rattle.laws_world.proofs.Moves.{Moved, NodesMove, step_moves}
 
 -- each admitted event of a node keeps it
@@ -50,8 +50,8 @@ opened_holds conf can = record {
 pub agree_from_opening : (conf : Conf) (events : List Event) → CanOpen conf → AgreeAlong (opened_world conf) events
 agree_from_opening conf events can = along Holds PartsAgree step_holds agree (opened_world conf) events (opened_holds conf can)
 
-pub exact_from_opening : (conf : Conf) (events : List Event) → CanOpen conf → ExactAlong (opened_world conf) events
-exact_from_opening conf events can = along Holds HasExactTasks step_holds (λ n h. (agree n h).runnable) (opened_world conf) events (opened_holds conf can)
+pub standing_from_opening : (conf : Conf) (events : List Event) → CanOpen conf → StandAlong (opened_world conf) events
+standing_from_opening conf events can = along Holds Stands step_holds (λ n h. (agree n h).standing) (opened_world conf) events (opened_holds conf can)
 
 kept_event : IsKept HasKeptPoints
 kept_event n event can h = (points.kept_along n (event ∷ []) h).1

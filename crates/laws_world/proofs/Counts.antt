@@ -1,42 +1,45 @@
 -- After so many events no count of the world is above their number: so where a history has room for an entry more, each
 -- count fits the code's numbers.
-use Rattle.std.proofs.Common.{◌≡◌, ℕ, ◌+◌, ◌<◌, ◌≤◌, true, false, List, [], ◌∷◌, ◌++◌, length, map, Option, Some, None, refl, subst, inl, inr, arith}
-use Rattle.std.specs.Prelude.{◌==◌, slice_get, nat_le}
-use Rattle.std.proofs.lemmas.Bool.{cases_Bool, cases_lt, le-leb}
+use Rattle.std.proofs.Common.{ℕ, ◌+◌, ◌≤◌, List, [], ◌∷◌, ◌++◌, length, map, Option, Some, None, subst, inl, inr, arith}
+use Rattle.std.specs.Prelude.{◌==◌, slice_get}
+use Rattle.std.proofs.lemmas.Bool.{cases_Bool}
 use Rattle.std.proofs.lemmas.List.{length-append, length-map}
 use Rattle.it_types.specs.declared.id.NodeId.{NodeId}
 use Rattle.it_types.specs.declared.id.PackNo.{PackNo}
 use Rattle.it_types.specs.declared.event.Event.{Event}
 use Rattle.it_types.specs.declared.event.Event.TheVariants as events
 use Rattle.it_types.specs.declared.entry.Entry.{Entry}
+use Rattle.it_types.specs.declared.conf.KConf.{KConf}
 use Rattle.it_types.specs.declared.node_conf.Conf.{Conf}
+use Rattle.it_types.specs.Configuration.{kernel_conf, first_conf, second_conf}
 use Rattle.spec_node.specs.declared.event.NodeEvent.{NodeEvent}
 use Rattle.spec_node.specs.declared.event.NodeEvent.TheVariants.{Call, Return, Tick, Arrive}
-use Rattle.spec_node.specs.PlainNode.{PlainNode}
+use Rattle.spec_node.specs.PlainNode.{PlainNode, opened_node}
 use Rattle.spec_node.specs.NodeStep.{node_step}
 use Rattle.spec_world.specs.PlainWorld.{Packet, PlainWorld, packet_from, peer_of, step_at, delivery, step, opened_world}
-use Rattle.spec_world.specs.Sizes.{entry_limit, is_full}
 use Rattle.spec_world.specs.History.{after}
-use Rattle.spec_world.proofs.Growth.{node_steps_on}
+use Rattle.laws_kernel.proofs.Drawing.{opened-next_rank}
+use Rattle.laws_world.proofs.Growth.{node_steps_on}
 
 pub record IsWithin (m : ℕ) (n : PlainNode) : Type 0 where
   pub calls : n.calls ≤ m
-  pub now : n.kernel.now ≤ m
+  pub now : n.kernel.clock.now ≤ m
+  pub ranks : n.kernel.next_rank ≤ m
 
--- the call numbers and the ticks of each node, and the packets, are at most m
+-- the call numbers, ticks and ranks of each node, and the packets, are at most m
 pub record AreWithin (m : ℕ) (w : PlainWorld) : Type 0 where
   pub first : IsWithin m w.nodes.first
   pub second : IsWithin m w.nodes.second
   pub packets : length w.packets ≤ m
 
 node_within : (m : ℕ) (n : PlainNode) → IsWithin m n → IsWithin (m + 1) n
-node_within m n h = record { calls = omega (arith, h.calls); now = omega (arith, h.now) }
+node_within m n h = record { calls = omega (arith, h.calls); now = omega (arith, h.now); ranks = omega (arith, h.ranks) }
 
 within_more : (m : ℕ) (w : PlainWorld) → AreWithin m w → AreWithin (m + 1) w
 within_more m w h = record { first = node_within m w.nodes.first h.first; second = node_within m w.nodes.second h.second; packets = omega (arith, h.packets) }
 
 node_step_within : (m : ℕ) (n : PlainNode) (event : NodeEvent) → IsWithin m n → IsWithin (m + 1) (node_step n event).0
-node_step_within m n event h = let on = node_steps_on n event in record { calls = omega (arith, on.calls, h.calls); now = omega (arith, on.now, h.now) }
+node_step_within m n event h = let on = node_steps_on n event in record { calls = omega (arith, on.calls, h.calls); now = omega (arith, on.now, h.now); ranks = omega (arith, on.ranks, h.ranks) }
 
 packets_more : (m : ℕ) (packets : List Packet) (id : NodeId) (sent : List (List ℕ)) → length packets ≤ m → length sent ≤ 1 → length (packets ++ map (packet_from id) sent) ≤ m + 1
 packets_more m packets id sent le few = omega (arith, length-append packets (map (packet_from id) sent), length-map sent (packet_from id))
@@ -73,14 +76,14 @@ after_within : (m : ℕ) (w : PlainWorld) (es : List Entry) → AreWithin m w �
 after_within m w [] h = subst (λ k. AreWithin k w) (omega arith) h
 after_within m w (e ∷ es) h = subst (λ k. AreWithin k (after (step w e.ev).0 es)) (omega arith) (after_within (m + 1) (step w e.ev).0 es (step_within m w e.ev h))
 
+opened_within : (conf : KConf) (addr : ℕ) → IsWithin 0 (opened_node conf addr)
+opened_within conf addr = record { calls = omega arith; now = omega arith; ranks = omega (arith, opened-next_rank conf) }
+
 -- after the events of a history no count is above its length
 pub within_length : (conf : Conf) (log : List Entry) → AreWithin (length log) (after (opened_world conf) log)
 within_length conf log = subst (λ k. AreWithin k (after (opened_world conf) log)) (omega arith)
-    (after_within 0 (opened_world conf) log (record { first = record { calls = omega arith; now = omega arith }; second = record { calls = omega arith; now = omega arith }; packets = omega arith }))
-
--- a history with room is shorter than the limit
-pub room_short : (log : List Entry) → is_full log ≡ false → length log < entry_limit
-room_short log room = elim (cases_lt (length log) entry_limit) [
-  | inl lt ↦ lt
-  | inr le ↦ absurd (let full : nat_le entry_limit (length log) ≡ true = le-leb entry_limit (length log) le in let all : is_full log ≡ true = rw full refl in cc)
-]
+    (after_within 0 (opened_world conf) log (record {
+      first = opened_within (kernel_conf (first_conf conf)) (first_conf conf).addr;
+      second = opened_within (kernel_conf (second_conf conf)) (second_conf conf).addr;
+      packets = omega arith;
+    }))

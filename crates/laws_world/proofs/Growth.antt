@@ -1,4 +1,4 @@
--- Each event draws at most one call number, ticks a node's clock at most once, and sends at most one packet.
+-- Each event draws at most one call number and one rank, ticks a node's clock at most once, and sends at most one packet.
 use Rattle.std.proofs.Common.{◌≡◌, ℕ, zero, suc, ◌+◌, ◌≤◌, List, [], ◌∷◌, ◌++◌, length, Option, Some, None, refl, ap, ◌∙◌, inl, inr, arith}
 use Rattle.std.proofs.lemmas.Bool.{cases_Bool}
 use Rattle.std.proofs.lemmas.List.{append-nil}
@@ -14,13 +14,10 @@ use Rattle.it_types.specs.declared.entry.Out.{Out}
 use Rattle.it_types.specs.Requests.{kernel_of}
 use Rattle.spec_lists.proofs.Firsts.{cases_of_first}
 use Rattle.spec_kernel.specs.declared.outcome.KEnd.{KEnd}
-use Rattle.spec_kernel.specs.declared.wait.Wait.{Wait}
 use Rattle.spec_kernel.specs.PlainKernel.{PlainKernel}
-use Rattle.spec_kernel.specs.Settle.{Outcome, settled}
-use Rattle.spec_kernel.specs.Deadlines.{next_past, ended_by_time, by_time}
-use Rattle.spec_kernel.specs.Rows.{call, tick, ticked, quiet}
-use Rattle.spec_kernel.proofs.Settling.{call-now, settled-now}
-use Rattle.spec_kernel.proofs.Timing.{next_past_none, due_none, due_some}
+use Rattle.spec_kernel.specs.Settle.{Outcome}
+use Rattle.spec_kernel.specs.Rows.{call, tick}
+use Rattle.spec_kernel.specs.Time.{due, unblocked}
 use Rattle.spec_net.specs.declared.pending.NetCall.{NetCall}
 use Rattle.spec_net.specs.declared.outcome.NetAnswer.{NetAnswer}
 use Rattle.spec_net.specs.declared.outcome.NetAnswer.TheVariants as net_answers
@@ -34,9 +31,10 @@ use Rattle.spec_node.specs.declared.event.NodeEvent.{NodeEvent}
 use Rattle.spec_node.specs.declared.event.NodeEvent.TheVariants.{Call, Return, Tick, Arrive}
 use Rattle.spec_node.specs.PlainNode.{PlainNode}
 use Rattle.spec_node.specs.Progress.{Progress, woken_by, after_end, after_ends, after_kernel, time_out, timed_out}
-use Rattle.spec_node.specs.NodeStep.{beginning, blocked_where, kernel_answer, net_answer, drawn, kernel_called, network_called, called_as, arrived, ticked as ticked_node, returned, node_step}
+use Rattle.spec_node.specs.NodeStep.{beginning, blocked_where, kernel_answer, net_answer, drawn, kernel_called, network_called, called_as, arrived, ticked, returned, node_step}
 use Rattle.spec_node.proofs.Progressing.{woken_by_keeps}
 use Rattle.spec_net.proofs.NetActs.{row_acts}
+use Rattle.laws_kernel.proofs.Drawing.{call-now, call-next_rank, tick-now, tick-next_rank, due-now, due-next_rank, unblocked-next_rank}
 
 -- ---- numbers
 
@@ -46,15 +44,24 @@ drawn_le (answers.Now code bytes) = omega arith
 drawn_le (answers.Later number) = omega arith
 drawn_le answers.Quiet = omega arith
 
--- ---- clocks
+-- ---- clocks and ranks
 
-woken_by-now : (k : PlainKernel) (es : List NetEnd) → (woken_by k es).now ≡ k.now
-woken_by-now k es = woken_by_keeps (λ (k : PlainKernel). k.now) (λ k w others. refl) k es
+woken_by-now : (k : PlainKernel) (es : List NetEnd) → (woken_by k es).clock.now ≡ k.clock.now
+woken_by-now k es = woken_by_keeps (λ (k : PlainKernel). k.clock.now) (λ k w others. refl) k es
 
-blocked_where-now : (answer : NetAnswer) (k : PlainKernel) (ctx : Ctx) (request : Req) (number : CallNo) → (blocked_where answer k ctx request number).now ≡ k.now
+woken_by-next_rank : (k : PlainKernel) (es : List NetEnd) → (woken_by k es).next_rank ≡ k.next_rank
+woken_by-next_rank k [] = refl
+woken_by-next_rank k (e ∷ es) = woken_by-next_rank (unblocked k e.who).0 es ∙ unblocked-next_rank k e.who
+
+blocked_where-now : (answer : NetAnswer) (k : PlainKernel) (ctx : Ctx) (request : Req) (number : CallNo) → (blocked_where answer k ctx request number).clock.now ≡ k.clock.now
 blocked_where-now net_answers.Pends k ctx request number = refl
 blocked_where-now (net_answers.Now code bytes) k ctx request number = refl
 blocked_where-now net_answers.Quiet k ctx request number = refl
+
+blocked_where-next_rank : (answer : NetAnswer) (k : PlainKernel) (ctx : Ctx) (request : Req) (number : CallNo) → (blocked_where answer k ctx request number).next_rank ≤ k.next_rank + 1
+blocked_where-next_rank net_answers.Pends k ctx request number = omega arith
+blocked_where-next_rank (net_answers.Now code bytes) k ctx request number = omega arith
+blocked_where-next_rank net_answers.Quiet k ctx request number = omega arith
 
 -- ---- packets of the network part
 
@@ -93,51 +100,49 @@ ended_sends net number code = net_settled-packets (ended_at net code (numbered n
 
 -- ---- what the parts did is taken over
 
--- the clock and the packets stay as they were
-record Stays (p q : Progress) : Type 0 where
-  now : q.kernel.now ≡ p.kernel.now
+-- the clock, the ranks and the packets stay as they were
+record Stays (k : PlainKernel) (p q : Progress) : Type 0 where
+  now : q.kernel.clock.now ≡ k.clock.now
+  ranks : q.kernel.next_rank ≡ k.next_rank
   packets : q.packets ≡ p.packets
 
-after_end_stays : (p : Progress) (e : KEnd) → Stays p (after_end p e)
+after_end_stays : (p : Progress) (e : KEnd) → Stays p.kernel p (after_end p e)
 after_end_stays p e = elim (cases_Bool e.outside) [
-  | inl t ↦ rw t (record { now = woken_by-now p.kernel (ended p.net e.call e.code).ends; packets = ap (λ ps. p.packets ++ ps) (ended_sends p.net e.call e.code) ∙ append-nil p.packets })
-  | inr t ↦ rw t (record { now = refl; packets = refl })
+  | inl t ↦
+      let es = (ended p.net e.call e.code).ends in
+      rw t (record { now = woken_by-now p.kernel es; ranks = woken_by-next_rank p.kernel es; packets = ap (λ ps. p.packets ++ ps) (ended_sends p.net e.call e.code) ∙ append-nil p.packets })
+  | inr t ↦ rw t (record { now = refl; ranks = refl; packets = refl })
 ]
 
-after_ends_stays : (p : Progress) (es : List KEnd) → Stays p (after_ends p es)
-after_ends_stays p [] = record { now = refl; packets = refl }
+after_ends_stays : (p : Progress) (es : List KEnd) → Stays p.kernel p (after_ends p es)
+after_ends_stays p [] = record { now = refl; ranks = refl; packets = refl }
 after_ends_stays p (e ∷ es) =
     let one = after_end_stays p e in
     let rest = after_ends_stays (after_end p e) es in
-    record { now = rest.now ∙ one.now; packets = rest.packets ∙ one.packets }
+    record { now = rest.now ∙ one.now; ranks = rest.ranks ∙ one.ranks; packets = rest.packets ∙ one.packets }
 
-after_kernel-now : (p : Progress) (o : Outcome) → (after_kernel p o).kernel.now ≡ o.kernel.now
+-- as the kernel has left them
+after_kernel_stays : (p : Progress) (o : Outcome) → Stays o.kernel p (after_kernel p o)
 unfolding after_kernel
-after_kernel-now p o = (after_ends_stays (record p { kernel = o.kernel }) o.ends).now
+after_kernel_stays p o = let all = after_ends_stays (record p { kernel = o.kernel }) o.ends in record { now = all.now; ranks = all.ranks; packets = all.packets }
 
-after_kernel-packets : (p : Progress) (o : Outcome) → (after_kernel p o).packets ≡ p.packets
-unfolding after_kernel
-after_kernel-packets p o = (after_ends_stays (record p { kernel = o.kernel }) o.ends).packets
-
-turn_stays : (p : Progress) (z : Wait × List Wait) → Stays p (after_kernel p (ended_by_time p.kernel z))
-turn_stays p z = record {
-  now = after_kernel-now p (ended_by_time p.kernel z) ∙ settled-now (by_time p.kernel z);
-  packets = after_kernel-packets p (ended_by_time p.kernel z);
-}
-
-time_out_stays : (n : ℕ) (p : Progress) → Stays p (time_out n p)
+time_out_stays : (n : ℕ) (p : Progress) → Stays p.kernel p (time_out n p)
 unfolding time_out
-time_out_stays zero p = record { now = refl; packets = refl }
-time_out_stays (suc n) p = elim (cases_of_first (next_past p.kernel)) [
-  | inl e ↦ rw (due_none p.kernel (next_past_none p.kernel e)) (record { now = refl; packets = refl })
-  | inr x ↦ (
-      let one = turn_stays p x.0 in
-      let rest = time_out_stays n (after_kernel p (ended_by_time p.kernel x.0)) in
-      rw (due_some p.kernel x.0 x.1) (record { now = rest.now ∙ one.now; packets = rest.packets ∙ one.packets })
+time_out_stays zero p = record { now = refl; ranks = refl; packets = refl }
+time_out_stays (suc n) p = elim (cases_of_first (due p.kernel)) [
+  | inl e ↦ rw e (record { now = refl; ranks = refl; packets = refl })
+  | inr o ↦ (
+      let one = after_kernel_stays p o.0 in
+      let rest = time_out_stays n (after_kernel p o.0) in
+      rw o.1 (record {
+        now = rest.now ∙ one.now ∙ due-now p.kernel o.0 o.1;
+        ranks = rest.ranks ∙ one.ranks ∙ due-next_rank p.kernel o.0 o.1;
+        packets = rest.packets ∙ one.packets;
+      })
       )
 ]
 
-timed_out_stays : (p : Progress) → Stays p (timed_out p)
+timed_out_stays : (p : Progress) → Stays p.kernel p (timed_out p)
 unfolding timed_out
 timed_out_stays p = time_out_stays (length p.kernel.waits) p
 
@@ -145,7 +150,8 @@ timed_out_stays p = time_out_stays (length p.kernel.waits) p
 
 pub record StepsOn (n : PlainNode) (r : PlainNode × Out) : Type 0 where
   pub calls : r.0.calls ≤ n.calls + 1
-  pub now : r.0.kernel.now ≤ n.kernel.now + 1
+  pub now : r.0.kernel.clock.now ≤ n.kernel.clock.now + 1
+  pub ranks : r.0.kernel.next_rank ≤ n.kernel.next_rank + 1
   pub packs : length r.1.packs ≤ 1
 
 kernel_called_on : (n : PlainNode) (ctx : Ctx) (request : KReq) → StepsOn n (kernel_called n ctx request)
@@ -153,10 +159,12 @@ unfolding kernel_called
 kernel_called_on n ctx request =
     let number : CallNo = record { 0 = n.calls + 1 } in
     let o : Outcome = call n.kernel ctx request number in
+    let stays = after_kernel_stays (beginning n) o in
     record {
       calls = omega (arith, drawn_le (kernel_answer (n.calls + 1) o.answer));
-      now = omega (arith, after_kernel-now (beginning n) o, call-now n.kernel ctx request number);
-      packs = omega (arith, ap length (after_kernel-packets (beginning n) o));
+      now = omega (arith, stays.now, call-now n.kernel ctx request number);
+      ranks = omega (arith, stays.ranks, call-next_rank n.kernel ctx request number);
+      packs = omega (arith, ap length stays.packets);
     }
 
 network_called_on : (n : PlainNode) (ctx : Ctx) (request : Req) → StepsOn n (network_called n ctx request)
@@ -168,6 +176,7 @@ network_called_on n ctx request =
     record {
       calls = omega (arith, drawn_le (net_answer (n.calls + 1) o.answer));
       now = omega (arith, woken_by-now k o.ends, blocked_where-now o.answer n.kernel ctx request number);
+      ranks = omega (arith, woken_by-next_rank k o.ends, blocked_where-next_rank o.answer n.kernel ctx request number);
       packs = net_call_sends n.net ctx request number;
     }
 
@@ -176,24 +185,26 @@ unfolding arrived
 arrived_on n bytes = record {
   calls = omega arith;
   now = omega (arith, woken_by-now n.kernel (arrive n.net bytes).ends);
+  ranks = omega (arith, woken_by-next_rank n.kernel (arrive n.net bytes).ends);
   packs = omega (arith, ap length (arrive_sends n.net bytes));
 }
 
-ticked_on : (n : PlainNode) → StepsOn n (ticked_node n)
-unfolding ticked_node tick
+ticked_on : (n : PlainNode) → StepsOn n (ticked n)
+unfolding ticked
 ticked_on n =
-    let o : Outcome = settled (quiet (ticked n.kernel)) in
-    let p : Progress = after_kernel (beginning n) o in
-    let stays = timed_out_stays p in
+    let o : Outcome = tick n.kernel in
+    let first = after_kernel_stays (beginning n) o in
+    let rest = timed_out_stays (after_kernel (beginning n) o) in
     record {
       calls = omega arith;
-      now = omega (arith, stays.now, after_kernel-now (beginning n) o, settled-now (quiet (ticked n.kernel)));
-      packs = omega (arith, ap length stays.packets, ap length (after_kernel-packets (beginning n) o));
+      now = omega (arith, rest.now, first.now, tick-now n.kernel);
+      ranks = omega (arith, rest.ranks, first.ranks, tick-next_rank n.kernel);
+      packs = omega (arith, ap length rest.packets, ap length first.packets);
     }
 
 returned_on : (n : PlainNode) (task : TaskId) → StepsOn n (returned n task)
 unfolding returned
-returned_on n task = record { calls = omega arith; now = omega arith; packs = omega arith }
+returned_on n task = record { calls = omega arith; now = omega arith; ranks = omega arith; packs = omega arith }
 
 called_on : (n : PlainNode) (ctx : Ctx) (request : Req) (call : Option KReq) → StepsOn n (called_as n ctx request call)
 called_on n ctx request (Some call) = kernel_called_on n ctx call

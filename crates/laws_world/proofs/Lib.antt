@@ -1,7 +1,6 @@
 pub mod Moves
 pub mod Rest
 pub mod Both
-pub mod SameProgress
-pub mod SameNodeSteps
-pub mod SameSteps
+pub mod Growth
+pub mod Counts
 pub mod Sending

@@ -3,21 +3,21 @@ use Rattle.std.specs.Prelude.{List}
 use Rattle.it_types.specs.declared.event.Event.{Event}
 use Rattle.spec_node.specs.PlainNode.{PlainNode}
 use Rattle.spec_world.specs.PlainWorld.{PlainWorld}
-use Rattle.laws_kernel.specs.Runnable.{IsExact}
+use Rattle.spec_kernel.specs.Standing.{IsStanding}
 use Rattle.laws_node.specs.Agreement.{PartsAgree}
 use Rattle.laws_node.specs.EndPoints.{PointsAreKept}
 use Rattle.laws_world.specs.Taken.{OfBothAlong}
 
--- the list of runnable tasks of a node has each runnable task once, and no other
-abbrev pub HasExactTasks : PlainNode → Type 0
-HasExactTasks n = IsExact n.kernel
+-- the tasks and calls of a node stand as they are to
+abbrev pub Stands : PlainNode → Type 0
+Stands n = IsStanding n.kernel
 
 -- the end points of a node are as they are to be
 abbrev pub HasKeptPoints : PlainNode → Type 0
 HasKeptPoints n = PointsAreKept n.net
 
-abbrev pub ExactAlong : PlainWorld → List Event → Type 0
-ExactAlong w events = OfBothAlong HasExactTasks w events
+abbrev pub StandAlong : PlainWorld → List Event → Type 0
+StandAlong w events = OfBothAlong Stands w events
 
 abbrev pub AgreeAlong : PlainWorld → List Event → Type 0
 AgreeAlong w events = OfBothAlong PartsAgree w events

@@ -1,7 +1,6 @@
 -- Any list of events: those that are admitted are taken, and the others change nothing. It is this project's own.
 use Rattle.std.specs.Prelude.{true, false, List, [], ◌∷◌}
 use Rattle.it_types.specs.declared.event.Event.{Event}
-use Rattle.it_types.specs.declared.entry.Entry.{Entry}
 use Rattle.it_types.specs.declared.node_conf.Conf.{Conf}
 use Rattle.it_types.specs.Configuration.{kernel_conf, first_conf, second_conf}
 use Rattle.spec_kernel.specs.Opening.{IsDeclarable}
@@ -17,11 +16,6 @@ pub record CanOpen (conf : Conf) : Type 0 where
 -- the world after an event
 abbrev pub taken : PlainWorld → Event → PlainWorld
 taken w event = elim (is_admitted w event) [ true ↦ (step w event).0 | false ↦ w ]
-
--- the entries of the events that are taken
-abbrev pub entries : PlainWorld → List Event → List Entry
-entries w [] = []
-entries w (event ∷ events) = elim (is_admitted w event) [ true ↦ (step w event).1 ∷ entries (step w event).0 events | false ↦ entries w events ]
 
 -- what holds of a node holds of both nodes
 pub record OfBoth (P : PlainNode → Type 0) (w : PlainWorld) : Type 0 where

@@ -6,12 +6,10 @@ mod agreement;
 mod at_rest;
 mod end_points;
 mod packets;
-mod ranks;
 mod runnable;
 
 pub use agreement::parts_agree_in_both_nodes;
 pub use at_rest::no_call_waits_too_long;
 pub use end_points::end_points_are_kept_in_both_nodes;
 pub use packets::packets_are_those_of_the_entries;
-pub use ranks::places_are_ranks;
 pub use runnable::runnable_tasks_are_exact;

@@ -3,12 +3,12 @@ ghost use Rattle.it_types.specs.declared.event.Event.{Event};
 ghost use Rattle.it_types.specs.declared.node_conf.Conf.{Conf};
 ghost use Rattle.spec_world.specs.PlainWorld.{opened_world};
 ghost use Rattle.laws_world.specs.Taken.{CanOpen};
-ghost use Rattle.laws_world.specs.BothNodes.{ExactAlong};
+ghost use Rattle.laws_world.specs.BothNodes.{StandAlong};
 
 /// Over every list of events, of which those that aren't admitted change nothing: the list of runnable tasks of either node
-/// has each task that is active and has no call that waits, once, and no other (µITRON4.0 section 3.2); no task has two calls
-/// that wait.
-#[tactic(auto, using(crate::proofs::Both::exact_from_opening))]
+/// has each task that is active, isn't suspended and has no call that waits, once, and no other (µITRON4.0 section 3.2); a
+/// task whose call waits is active, and has one such call; and the ranks of the calls that wait rise along their list.
+#[tactic(auto, using(crate::proofs::Both::standing_from_opening))]
 pub fn runnable_tasks_are_exact()
-    ensures { (conf : Conf) (events : List Event) → CanOpen conf → ExactAlong (opened_world conf) events }
+    ensures { (conf : Conf) (events : List Event) → CanOpen conf → StandAlong (opened_world conf) events }
 {}

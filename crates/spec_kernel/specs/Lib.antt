@@ -18,6 +18,7 @@ pub mod PlainQueues
 pub mod QueueRows
 pub mod QueueRuns
 pub mod PlainClock
+pub mod Calls
 pub mod PlainKernel
 pub mod Settle
 pub mod Rows

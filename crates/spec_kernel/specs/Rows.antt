@@ -1,6 +1,6 @@
--- The kernel calls (µITRON4.0 chapter 4): for each whether it may be made in a handler, and then what its part makes of it. A call that a
--- part leaves to wait is accepted here, under a number and with its deadline.
-use Rattle.std.specs.Prelude.{ℕ, ◌+◌, Bool, true, false, not, ◌&&◌, ◌==◌, List, [], ◌∷◌, ◌++◌, Option, Some, None, if◌then◌else◌}
+-- What a kernel call comes to (µITRON4.0 chapter 4), by kind: first what its part makes of it. A call that a part leaves to wait is accepted
+-- here, under a number and with its deadline.
+use Rattle.std.specs.Prelude.{ℕ, ◌+◌, Bool, not, ◌&&◌, ◌==◌, List, [], ◌∷◌, ◌++◌, Option, Some, None, if◌then◌else◌}
 use Rattle.std.specs.Int.{is_negative}
 use Rattle.it_types.specs.declared.id.TaskId.{TaskId}
 use Rattle.it_types.specs.declared.id.CallNo.{CallNo}
@@ -12,7 +12,6 @@ use Rattle.it_types.specs.declared.context.Ctx.{Ctx}
 use Rattle.it_types.specs.declared.synced.Synced.{Synced}
 use Rattle.it_types.specs.declared.synced.Synced.TheVariants.{Took, MustWait, Refused}
 use Rattle.it_types.specs.declared.kernel_request.KReq.{KReq}
-use Rattle.it_types.specs.declared.kernel_request.KReq.TheVariants.{ActTsk, CanAct, ExtTsk, TerTsk, ChgPri, GetPri, TslpTsk, WupTsk, CanWup, RelWai, SusTsk, RsmTsk, FrsmTsk, DlyTsk, RotRdq, GetTid, SigSem, TwaiSem, SetFlg, ClrFlg, TwaiFlg, TsndDtq, FsndDtq, TrcvDtq, SetTim, GetTim, StaCyc, StpCyc}
 use Rattle.it_types.specs.Callers.{nobody, is_handler, caller, is_poll}
 use Rattle.spec_lists.specs.Tables.{get}
 use Rattle.spec_lists.specs.First.{take_first}
@@ -22,19 +21,20 @@ use Rattle.spec_kernel.specs.declared.outcome.KAns.{KAns}
 use Rattle.spec_kernel.specs.declared.outcome.KAns.TheVariants.{Now, Pends, Quiet}
 use Rattle.spec_kernel.specs.declared.outcome.KEnd.{KEnd}
 use Rattle.spec_kernel.specs.declared.reason.WaitReason.{WaitReason}
-use Rattle.spec_kernel.specs.declared.reason.WaitReason.TheVariants as reasons
 use Rattle.spec_kernel.specs.declared.reason.WaitingCall.{WaitingCall}
-use Rattle.spec_kernel.specs.AnswerBytes.{four_bytes, eight_bytes}
+use Rattle.spec_kernel.specs.AnswerBytes.{four_bytes}
 use Rattle.spec_kernel.specs.TaskBlocks.{priority_of}
 use Rattle.spec_kernel.specs.PlainTasks.{PlainTasks, is_waiting}
 use Rattle.spec_kernel.specs.PlainTasks.{waiting as waiting_task}
-use Rattle.spec_kernel.specs.TaskRows.{TaskDone, act_tsk, can_act, ext_tsk, ter_tsk, chg_pri, get_pri, tslp_tsk, wup_tsk, can_wup, rel_wai, sus_tsk, rsm_tsk, frsm_tsk, dly_tsk, rot_rdq, get_tid, named}
+use Rattle.spec_kernel.specs.TaskRows.{TaskDone, named}
 use Rattle.spec_kernel.specs.Waiting.{is_by_priority}
-use Rattle.spec_kernel.specs.SemaphoreRows.{SemaphoresDone, sig_sem, twai_sem}
-use Rattle.spec_kernel.specs.FlagRows.{FlagsDone, set_flg, clr_flg, twai_flg}
+use Rattle.spec_kernel.specs.SemaphoreRows.{SemaphoresDone}
+use Rattle.spec_kernel.specs.FlagRows.{FlagsDone}
 use Rattle.spec_kernel.specs.PlainQueues.{handed_bytes}
-use Rattle.spec_kernel.specs.QueueRows.{QueuesDone, tsnd_dtq, fsnd_dtq, trcv_dtq}
-use Rattle.spec_kernel.specs.PlainClock.{time_set, answer_on, sta_cyc, stp_cyc, ticked_clock}
+use Rattle.spec_kernel.specs.QueueRows.{QueuesDone}
+use Rattle.spec_kernel.specs.PlainClock.{ticked_clock}
+use Rattle.spec_kernel.specs.Calls.{Row, is_a_handlers, row_of}
+use Rattle.spec_kernel.specs.Calls.Row.{TasksAtOnce, TasksInTime, NewPriority, OnSemaphores, OnFlags, OnQueues, OnClock}
 use Rattle.spec_kernel.specs.PlainKernel.{PlainKernel, is_of, task_wait, tasks_of, with_tasks, semaphores_of, flags_of, queues_of, with_objects}
 use Rattle.spec_kernel.specs.Settle.{Outcome, ending, ended, settled}
 
@@ -163,56 +163,25 @@ abbrev pub done_by_queues : PlainKernel → Ctx → QueuesDone → WaitReason �
 done_by_queues k ctx done reason tmo number =
     with_handed (done_by_objects k (with_objects k (record k.objects { queues = done.dtqs.queues })) ctx done.synced reason tmo number) done.dtqs.handed
 
--- ---- which calls a handler may make
-
-abbrev pub is_a_handlers : KReq → Bool
-is_a_handlers (ActTsk t) = true
-is_a_handlers (WupTsk t) = true
-is_a_handlers (RelWai t) = true
-is_a_handlers (RotRdq p) = true
-is_a_handlers GetTid = true
-is_a_handlers (SigSem s) = true
-is_a_handlers (SetFlg f bits) = true
-is_a_handlers (FsndDtq q item) = true
-is_a_handlers (TsndDtq q item tmo) = is_poll tmo
-is_a_handlers _ = false
-
 -- ---- the calls
 
 -- the priority of a caller that may wait
 abbrev pub priority_in : PlainKernel → Ctx → ℕ
 priority_in k ctx = priority_of (get k.tasks (caller ctx).0)
 
+-- what a call of each kind comes to
+abbrev pub done_as : PlainKernel → Ctx → Row → CallNo → Outcome
+done_as k ctx (TasksAtOnce done) number = done_at_once k ctx (done (tasks_of k))
+done_as k ctx (TasksInTime done reason tmo) number = done_by_tasks k ctx (done (tasks_of k)) reason tmo number
+done_as k ctx (NewPriority task done) number = reprioritised k ctx task (done (tasks_of k))
+done_as k ctx (OnSemaphores done reason tmo) number = done_by_semaphores k ctx (done (semaphores_of k) (priority_in k ctx) k.next_rank) reason tmo number
+done_as k ctx (OnFlags done reason tmo) number = done_by_flags k ctx (done (flags_of k) (priority_in k ctx) k.next_rank) reason tmo number
+done_as k ctx (OnQueues done reason tmo) number = done_by_queues k ctx (done (queues_of k) (priority_in k ctx) k.next_rank) reason tmo number
+done_as k ctx (OnClock after code bytes) number = answered_with (record k { clock = after k.clock }) (code k.clock) (bytes k.clock)
+
 -- what each call comes to, where it may be made
 abbrev pub carried_out : PlainKernel → Ctx → KReq → CallNo → Outcome
-carried_out k ctx (ActTsk t) number = done_at_once k ctx (act_tsk (tasks_of k) ctx t)
-carried_out k ctx (CanAct t) number = done_at_once k ctx (can_act (tasks_of k) ctx t)
-carried_out k ctx ExtTsk number = done_at_once k ctx (ext_tsk (tasks_of k) ctx)
-carried_out k ctx (TerTsk t) number = done_at_once k ctx (ter_tsk (tasks_of k) ctx t)
-carried_out k ctx (ChgPri t p) number = reprioritised k ctx t (chg_pri (tasks_of k) ctx t p)
-carried_out k ctx (GetPri t) number = done_at_once k ctx (get_pri (tasks_of k) ctx t)
-carried_out k ctx (TslpTsk tmo) number = done_by_tasks k ctx (tslp_tsk (tasks_of k) ctx tmo) reasons.Sleep tmo number
-carried_out k ctx (WupTsk t) number = done_at_once k ctx (wup_tsk (tasks_of k) ctx t)
-carried_out k ctx (CanWup t) number = done_at_once k ctx (can_wup (tasks_of k) ctx t)
-carried_out k ctx (RelWai t) number = done_at_once k ctx (rel_wai (tasks_of k) ctx t)
-carried_out k ctx (SusTsk t) number = done_at_once k ctx (sus_tsk (tasks_of k) ctx t)
-carried_out k ctx (RsmTsk t) number = done_at_once k ctx (rsm_tsk (tasks_of k) ctx t)
-carried_out k ctx (FrsmTsk t) number = done_at_once k ctx (frsm_tsk (tasks_of k) ctx t)
-carried_out k ctx (DlyTsk ticks) number = done_by_tasks k ctx (dly_tsk (tasks_of k) ctx) reasons.Delay (timeouts.Ms ticks) number
-carried_out k ctx (RotRdq p) number = done_at_once k ctx (rot_rdq (tasks_of k) ctx p)
-carried_out k ctx GetTid number = done_at_once k ctx (get_tid (tasks_of k))
-carried_out k ctx (SigSem s) number = done_by_semaphores k ctx (sig_sem (semaphores_of k) s) (reasons.Semaphore s) timeouts.Pol number
-carried_out k ctx (TwaiSem s tmo) number = done_by_semaphores k ctx (twai_sem (semaphores_of k) s tmo (caller ctx) (priority_in k ctx) k.next_rank) (reasons.Semaphore s) tmo number
-carried_out k ctx (SetFlg f bits) number = done_by_flags k ctx (set_flg (flags_of k) f bits) (reasons.Flag (record { flag = f; bits = bits; all = false })) timeouts.Pol number
-carried_out k ctx (ClrFlg f bits) number = done_by_flags k ctx (clr_flg (flags_of k) f bits) (reasons.Flag (record { flag = f; bits = bits; all = false })) timeouts.Pol number
-carried_out k ctx (TwaiFlg f bits all tmo) number = done_by_flags k ctx (twai_flg (flags_of k) f bits all tmo (caller ctx) (priority_in k ctx) k.next_rank) (reasons.Flag (record { flag = f; bits = bits; all = all })) tmo number
-carried_out k ctx (TsndDtq q item tmo) number = done_by_queues k ctx (tsnd_dtq (queues_of k) q item tmo (caller ctx) (priority_in k ctx) k.next_rank) (reasons.Send q item) tmo number
-carried_out k ctx (FsndDtq q item) number = done_by_queues k ctx (fsnd_dtq (queues_of k) q item) (reasons.Send q item) timeouts.Pol number
-carried_out k ctx (TrcvDtq q tmo) number = done_by_queues k ctx (trcv_dtq (queues_of k) q tmo (caller ctx) (priority_in k ctx) k.next_rank) (reasons.Receive q) tmo number
-carried_out k ctx (SetTim ms) number = answered (record k { clock = time_set k.clock ms }) E_OK
-carried_out k ctx GetTim number = answered_with k E_OK (eight_bytes k.clock.system)
-carried_out k ctx (StaCyc c) number = answered (record k { clock = sta_cyc k.clock c }) (answer_on k.clock c)
-carried_out k ctx (StpCyc c) number = answered (record k { clock = stp_cyc k.clock c }) (answer_on k.clock c)
+carried_out k ctx request number = done_as k ctx (row_of ctx request) number
 
 -- the row of a request
 abbrev pub row : PlainKernel → Ctx → KReq → CallNo → Outcome

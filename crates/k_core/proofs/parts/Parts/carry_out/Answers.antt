@@ -2,7 +2,7 @@ use Rattle.std.proofs.Common.{sym, subst, ap, ◌∙◌, ◌&&◌, not}
 use Rattle.it_types.specs.declared.kernel_request.KReq.{KReq}
 use Rattle.it_types.specs.Callers.{is_handler}
 use Rattle.spec_kernel.specs.Parts.{PlainParts}
-use Rattle.spec_kernel.specs.Rows.{is_a_handlers}
+use Rattle.spec_kernel.specs.Calls.{is_a_handlers}
 use Rattle.k_core.specs.Callers.{MayCall}
 use Rattle.k_core.proofs.Calling.{as_caller, no_handler}
 use Rattle.k_core.proofs.parts.Parts.carry_out.Goals as goal
