@@ -48,33 +48,67 @@ def is_data(word):
     return DATA.fullmatch(word) is not None
 
 
-def is_wait(word):
-    return word in (b'pol', b'fevr') or is_number(word, 1, 1000000)
-
-
 def is_time_out(word):
-    return word == b'nblk' or is_wait(word)
+    return word in (b'pol', b'nblk', b'fevr') or is_number(word, 1, 1000000)
 
 
-def is_port(word):
-    return is_number(word, 0, 65535)
+def within(low, high):
+    return lambda word: is_number(word, low, high)
+
+
+def one_of(*words):
+    return lambda word: word in words
 
 
 CALLS = {
+    b'act_tsk': [is_word32],
+    b'can_act': [is_word32],
+    b'ext_tsk': [],
+    b'ter_tsk': [is_word32],
+    b'chg_pri': [is_word32, is_word32],
+    b'get_pri': [is_word32],
+    b'tslp_tsk': [is_time_out],
+    b'wup_tsk': [is_word32],
+    b'can_wup': [is_word32],
+    b'rel_wai': [is_word32],
+    b'sus_tsk': [is_word32],
+    b'rsm_tsk': [is_word32],
+    b'frsm_tsk': [is_word32],
+    b'dly_tsk': [within(0, 1000000)],
+    b'rot_rdq': [is_word32],
+    b'get_tid': [],
     b'sig_sem': [is_word32],
-    b'twai_sem': [is_word32, is_wait],
-    b'dly_tsk': [lambda word: is_number(word, 0, 1000000)],
-    b'udp_cre_cep': [is_word32, is_port, is_word32],
+    b'twai_sem': [is_word32, is_time_out],
+    b'set_flg': [is_word32, is_word32],
+    b'clr_flg': [is_word32, is_word32],
+    b'twai_flg': [is_word32, is_word32, one_of(b'and', b'or'), is_time_out],
+    b'tsnd_dtq': [is_word32, is_word32, is_time_out],
+    b'fsnd_dtq': [is_word32, is_word32],
+    b'trcv_dtq': [is_word32, is_time_out],
+    b'set_tim': [within(0, 2**63 - 1)],
+    b'get_tim': [],
+    b'udp_cre_cep': [is_word32, within(0, 65535), is_word32],
     b'udp_snd_dat': [is_word32, is_destination, is_data, is_time_out],
     b'udp_rcv_dat': [is_word32, is_word32, is_time_out],
 }
 
+DECLARATIONS = {
+    b'sem': [within(1, 16), one_of(b'fifo', b'pri'), is_word32, within(1, 65535)],
+    b'flg': [within(1, 16), one_of(b'fifo', b'pri'), one_of(b'one', b'many'), one_of(b'clr', b'keep'), is_word32],
+    b'dtq': [within(1, 16), one_of(b'fifo', b'pri'), within(0, 1024)],
+    b'task': [within(1, 16), within(1, 16), one_of(b'act', b'dor')],
+}
+
+
+def fits(forms, words):
+    """Whether the first word is in the table, and the others pass its tests."""
+    tests = forms.get(words[0])
+    return tests is not None and len(words) == len(tests) + 1 and all(test(word) for test, word in zip(tests, words[1:]))
+
 
 def is_call(line):
     """Whether a line can stand in a body."""
-    name, *words = line.split(b' ')
-    tests = CALLS.get(name)
-    return tests is not None and len(words) == len(tests) and all(test(word) for test, word in zip(tests, words))
+    return fits(CALLS, line.split(b' '))
 
 
 def is_link(line):
@@ -95,14 +129,8 @@ def address_of_node(line, node):
     return words[2] if is_word32(words[3]) and is_number(words[4], 0, 2000000000) else None
 
 
-def is_semaphore(words):
-    return (len(words) == 5 and words[0] == b'sem' and is_number(words[1], 1, 16) and words[2] == b'fifo'
-            and is_number(words[4], 1, 65535) and is_number(words[3], 0, int(words[4])))
-
-
-def is_task(words):
-    return (len(words) == 4 and words[0] == b'task' and is_number(words[1], 1, 16) and is_number(words[2], 1, 16)
-            and words[3] == b'act')
+def is_declaration(words):
+    return fits(DECLARATIONS, words) and (words[0] != b'sem' or int(words[3]) <= int(words[4]))
 
 
 def are_declarations(lines):
@@ -112,7 +140,7 @@ def are_declarations(lines):
     while at < len(lines):
         words = lines[at].split(b' ')
         at += 1
-        if not (is_semaphore(words) or is_task(words)) or (words[0], words[1]) in declared:
+        if not is_declaration(words) or (words[0], words[1]) in declared:
             return False
         declared.add((words[0], words[1]))
         if words[0] == b'task':
@@ -176,23 +204,35 @@ sig_sem 4294967295
 udp_snd_dat 1 255.0.10.255:65535 x00ff 1000000
 end
 node 1 10.0.0.2 0 0
+flg 16 pri many keep 4294967295
+dtq 16 pri 1024
 task 1 2 act
 #end
 udp_rcv_dat 1 4294967295 nblk
 twai_sem 1 fevr
+set_tim 9223372036854775807
+twai_flg 16 4294967295 and fevr
+tsnd_dtq 16 4294967295 nblk
+ext_tsk
+chg_pri 4294967295 0
+end
+task 16 16 dor
 end
 sem 1 fifo 1 1
+flg 1 fifo one clr 0
+dtq 1 fifo 0
 
 # Nothing follows.
 '''
 
-VALUES = [b'', b'0', b'00', b'01', b'+1', b'-1', b'1', b'2', b'16', b'17', b'255', b'256', b'65535', b'65536', b'400000', b'400001',
-          b'1000000', b'1000001', b'2000000000', b'2000000001', b'4294967295', b'4294967296', b'18446744073709551615',
-          b'18446744073709551616', b'9' * 5000]
+VALUES = [b'', b'0', b'00', b'01', b'+1', b'-1', b'1', b'2', b'16', b'17', b'255', b'256', b'1024', b'1025', b'65535',
+          b'65536', b'400000', b'400001', b'1000000', b'1000001', b'2000000000', b'2000000001', b'4294967295', b'4294967296',
+          b'9223372036854775807', b'9223372036854775808', b'18446744073709551615', b'18446744073709551616', b'9' * 5000]
 
 
 WORDS = [b'pol', b'nblk', b'fevr', b'FEVR', b'act', b'fifo', b'x', b'x0', b'xab', b'xAB', b'x0g', b'0.0.0.0', b'10.0.0.1', b'10.0.0.2',
-         b'10.0.0.2.', b'0.0.0.0:0', b'10.0.0.2:65536', b'sem', b'task', b'end', b'node', b'sig_sem', b'ext_tsk', b'#', b'\t']
+         b'10.0.0.2.', b'0.0.0.0:0', b'10.0.0.2:65536', b'sem', b'flg', b'dtq', b'task', b'end', b'node', b'sig_sem', b'ext_tsk',
+         b'get_tid', b'sta_cyc', b'pri', b'many', b'keep', b'dor', b'or', b'#', b'\t']
 
 
 def lines_of(text):
@@ -206,7 +246,7 @@ def prefixes(name, text):
         part = text[:size]
         lines = kept(part)
         at_end = (part.endswith(b'\n') and any(line.startswith(b'node 1') for line in lines)
-                  and re.match(rb'node 1|sem |end$', lines[-1]) is not None)
+                  and re.match(rb'node 1|(sem|flg|dtq) |end$', lines[-1]) is not None)
         yield Input('prefixes', f'the first {size} bytes of {name}', part, SCRIPT if at_end else WRONG)
 
 

@@ -5,7 +5,7 @@ use Rattle.std.proofs.lemmas.Bool.{and_parts}
 use Rattle.std.proofs.lemmas.List.{append-nil, map-append}
 use Rattle.std.proofs.lemmas.List.Concat.{flat_map-append}
 use Rattle.spec_script.specs.declared.script_line.ScriptLine.{ScriptLine}
-use Rattle.spec_script.specs.declared.script_line.ScriptLine.TheVariants.{Itron, Link, Ticks, FirstNode, SecondNode, Sem, Task, Call, End}
+use Rattle.spec_script.specs.declared.script_line.ScriptLine.TheVariants.{Itron, Link, Ticks, FirstNode, SecondNode, Sem, Flg, Dtq, Task, Call, End}
 use Rattle.spec_script.specs.declared.script_line.NodeLine.{NodeLine}
 use Rattle.spec_script.specs.declared.script.NodeDecl.{NodeDecl}
 use Rattle.spec_script.specs.Lines.{node_line, declaration_lines}
@@ -61,13 +61,19 @@ added Start d Itron place range = refl
 added Headed d (Link key) place range = rw (within_is 0 key _ range) refl
 added Linked d (Ticks ticks) place range = rw (within_is 0 ticks _ range) refl
 added Timed d (FirstNode n) place range = rw (node_is n range) refl
-added Declares d (Sem id init max) place range =
+added Declares d (Sem id pri init max) place range =
     let bounds = and_parts (within 1 id 16) _ range in
     let counts = and_parts (is_at_most init max) (within 1 max 65535) bounds.1 in
-    rw (flat_map-append, within_is 1 id _ bounds.0, at_most_is init max counts.0, within_is 1 max _ counts.1) (sym (append_assoc (begun d) (flat_map declaration_lines d.node.decls) (Sem id init max ∷ [])))
-added Declares d (Task id pri) place range =
+    rw (flat_map-append, within_is 1 id _ bounds.0, at_most_is init max counts.0, within_is 1 max _ counts.1) (sym (append_assoc (begun d) (flat_map declaration_lines d.node.decls) (Sem id pri init max ∷ [])))
+added Declares d (Flg id pri many clr init) place range =
+    let bounds = and_parts (within 1 id 16) (within 0 init 4294967295) range in
+    rw (flat_map-append, within_is 1 id _ bounds.0, within_is 0 init _ bounds.1) (sym (append_assoc (begun d) (flat_map declaration_lines d.node.decls) (Flg id pri many clr init ∷ [])))
+added Declares d (Dtq id pri cap) place range =
+    let bounds = and_parts (within 1 id 16) (within 0 cap 1024) range in
+    rw (flat_map-append, within_is 1 id _ bounds.0, within_is 0 cap _ bounds.1) (sym (append_assoc (begun d) (flat_map declaration_lines d.node.decls) (Dtq id pri cap ∷ [])))
+added Declares d (Task id pri act) place range =
     let bounds = and_parts (within 1 id 16) (within 1 pri 16) range in
-    rw (within_is 1 id _ bounds.0, within_is 1 pri _ bounds.1) (sym (append_assoc (begun d) (flat_map declaration_lines d.node.decls) (Task id pri ∷ [])))
+    rw (within_is 1 id _ bounds.0, within_is 1 pri _ bounds.1) (sym (append_assoc (begun d) (flat_map declaration_lines d.node.decls) (Task id pri act ∷ [])))
 added Declares d (SecondNode n) place range = second_added d n (none_is d.first place) range
 added InTask d (Call request true) place range = simp (map-append, append_assoc)
 added InTask d (Call request false) place range = absurd (let none : false ≡ true = range in cc)

@@ -7,15 +7,16 @@ use Rattle.std.proofs.lemmas.List.Folds.{list_all-append}
 use Rattle.it_types.specs.declared.request.Req.{Req}
 use Rattle.spec_script.specs.declared.script.NodeDecl.{NodeDecl}
 use Rattle.spec_script.specs.declared.decl.Decl.{Decl}
+use Rattle.spec_script.specs.declared.decl.Decl.TheVariants as declarations
 use Rattle.spec_script.specs.declared.decl.Line.TheVariants as body_lines
 use Rattle.spec_script.specs.declared.script_line.ScriptLine.{ScriptLine}
-use Rattle.spec_script.specs.declared.script_line.ScriptLine.TheVariants.{Itron, Link, Ticks, FirstNode, SecondNode, Sem, Task, Call, End}
+use Rattle.spec_script.specs.declared.script_line.ScriptLine.TheVariants.{Itron, Link, Ticks, FirstNode, SecondNode, Sem, Flg, Dtq, Task, Call, End}
 use Rattle.spec_script.specs.Ranges.{is_in_range, is_task, is_repeated, is_written_line, is_written_declaration, are_distinct, AreGood}
 use Rattle.s_script.specs.declared.read_bad.Why.TheVariants.{Form, Range, Twice}
 use Rattle.s_script.specs.declared.draft.Stage.{Stage}
-use Rattle.s_script.specs.declared.draft.Stage.TheVariants.{InTask}
+use Rattle.s_script.specs.declared.draft.Stage.TheVariants.{Declares, InTask}
 use Rattle.s_script.specs.declared.draft.Draft.{Draft}
-use Rattle.s_script.specs.Drafts.{start, lines_at, is_last, in_place, has_room, is_declared, cause, moved}
+use Rattle.s_script.specs.Drafts.{start, lines_at, is_last, in_place, has_room, is_declared, cause, semaphore_of, flag_of, queue_of, with_object, moved}
 use Rattle.s_script.proofs.Added.{added}
 use Rattle.s_script.proofs.LineTakes.{is_written}
 
@@ -70,7 +71,6 @@ pub record Kept (d : Draft) : Type 0 where
   pub ranges : list_all is_in_range (lines_at d.stage d) ≡ true
   pub before : IsAfter d.first d.node.addr
   pub good : AreGood d.node.decls
-  pub activated : d.task.act ≡ true
   pub calls : list_all is_written_line d.body ≡ true
   pub short : length d.body ≤ 1000
   pub at_stage : AtStage d.stage d
@@ -81,7 +81,7 @@ none_good = record { written = refl; distinct = refl }
 
 -- the draft before the first line keeps it
 pub start_kept : Kept start
-start_kept = record { ranges = refl; before = tt; good = none_good; activated = refl; calls = refl; short = omega arith; at_stage = tt }
+start_kept = record { ranges = refl; before = tt; good = none_good; calls = refl; short = omega arith; at_stage = tt }
 
 -- one more declaration that is distinct from those before
 distinct_push : (before ds : List Decl) (d : Decl) → are_distinct before ds ≡ true → is_repeated (before ++ ds) d ≡ false → are_distinct before (ds ++ d ∷ []) ≡ true
@@ -112,35 +112,39 @@ more_ranges d l k p = rw (added d.stage d l p.place p.range) (all_push is_in_ran
 good_push : (ds : List Decl) (d : Decl) → AreGood ds → is_written_declaration d ≡ true → is_repeated ds d ≡ false → AreGood (ds ++ d ∷ [])
 good_push ds d g written fresh = record { written = all_push is_written_declaration ds d g.written written; distinct = distinct_push [] ds d g.distinct fresh }
 
+-- one more object that is new keeps it all
+object_kept : (d : Draft) (declaration : Decl) → Kept d → list_all is_in_range (lines_at Declares (with_object d declaration)) ≡ true → is_written_declaration declaration ≡ true → is_repeated d.node.decls declaration ≡ false
+    → Kept (with_object d declaration)
+object_kept d declaration k ranges written fresh = record {
+  ranges = ranges;
+  before = k.before;
+  good = good_push d.node.decls declaration k.good written fresh;
+  calls = k.calls;
+  short = k.short;
+  at_stage = tt;
+}
+
 -- a line that passes and can be written keeps it all
 pub kept : (d : Draft) (l : ScriptLine) → Kept d → Passes d l → is_written l ≡ true → Kept (moved d l)
-kept d Itron k p w = record { ranges = more_ranges d Itron k p; before = k.before; good = k.good; activated = k.activated; calls = k.calls; short = k.short; at_stage = tt }
-kept d (Link key) k p w = record { ranges = more_ranges d (Link key) k p; before = k.before; good = k.good; activated = k.activated; calls = k.calls; short = k.short; at_stage = tt }
-kept d (Ticks ticks) k p w = record { ranges = more_ranges d (Ticks ticks) k p; before = k.before; good = k.good; activated = k.activated; calls = k.calls; short = k.short; at_stage = tt }
-kept d (FirstNode n) k p w = record { ranges = more_ranges d (FirstNode n) k p; before = tt; good = none_good; activated = k.activated; calls = k.calls; short = k.short; at_stage = tt }
+kept d Itron k p w = record { ranges = more_ranges d Itron k p; before = k.before; good = k.good; calls = k.calls; short = k.short; at_stage = tt }
+kept d (Link key) k p w = record { ranges = more_ranges d (Link key) k p; before = k.before; good = k.good; calls = k.calls; short = k.short; at_stage = tt }
+kept d (Ticks ticks) k p w = record { ranges = more_ranges d (Ticks ticks) k p; before = k.before; good = k.good; calls = k.calls; short = k.short; at_stage = tt }
+kept d (FirstNode n) k p w = record { ranges = more_ranges d (FirstNode n) k p; before = tt; good = none_good; calls = k.calls; short = k.short; at_stage = tt }
 kept d (SecondNode n) k p w = record {
   ranges = more_ranges d (SecondNode n) k p;
   before = (k.good, eqb-false (unwrap_or n.addr 0) d.node.addr (not-true (eqb (unwrap_or n.addr 0) d.node.addr) p.room));
   good = none_good;
-  activated = k.activated;
   calls = k.calls;
   short = k.short;
   at_stage = tt;
 }
-kept d (Sem id init max) k p w = record {
-  ranges = more_ranges d (Sem id init max) k p;
-  before = k.before;
-  good = good_push d.node.decls _ k.good refl p.fresh;
-  activated = k.activated;
-  calls = k.calls;
-  short = k.short;
-  at_stage = tt;
-}
-kept d (Task id pri) k p w = record {
-  ranges = more_ranges d (Task id pri) k p;
+kept d (Sem id pri init max) k p w = object_kept d (declarations.Sem (semaphore_of id pri init max)) k (more_ranges d (Sem id pri init max) k p) refl p.fresh
+kept d (Flg id pri many clr init) k p w = object_kept d (declarations.Flg (flag_of id pri many clr init)) k (more_ranges d (Flg id pri many clr init) k p) refl p.fresh
+kept d (Dtq id pri cap) k p w = object_kept d (declarations.Dtq (queue_of id pri cap)) k (more_ranges d (Dtq id pri cap) k p) refl p.fresh
+kept d (Task id pri act) k p w = record {
+  ranges = more_ranges d (Task id pri act) k p;
   before = k.before;
   good = k.good;
-  activated = refl;
   calls = refl;
   short = omega arith;
   at_stage = p.fresh;
@@ -149,7 +153,6 @@ kept d (Call request fits) k p w = record {
   ranges = more_ranges d (Call request fits) k p;
   before = k.before;
   good = k.good;
-  activated = k.activated;
   calls = all_push is_written_line d.body _ k.calls w;
   short = omega (arith, ltb-true (length d.body) 1000 p.room, length_push d.body (body_lines.Call request));
   at_stage = call_stage d.stage (is_last d) d request fits p.place k.at_stage;
@@ -157,8 +160,7 @@ kept d (Call request fits) k p w = record {
 kept d End k p w = record {
   ranges = more_ranges d End k p;
   before = k.before;
-  good = good_push d.node.decls _ k.good (rw (k.activated, le-leb (length d.body) 1000 k.short, k.calls) refl) (end_stage d.stage (is_last d) d p.place k.at_stage);
-  activated = k.activated;
+  good = good_push d.node.decls _ k.good (rw (le-leb (length d.body) 1000 k.short, k.calls) refl) (end_stage d.stage (is_last d) d p.place k.at_stage);
   calls = refl;
   short = omega arith;
   at_stage = tt;

@@ -1,4 +1,5 @@
 pub mod FirstLines
+pub mod LineFields
 pub mod LineTakes
 pub mod EachTakes
 pub mod LineAgain

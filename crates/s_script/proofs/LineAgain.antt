@@ -1,14 +1,15 @@
 -- A line in its ranges is read again from its text.
-use Rattle.std.proofs.Common.{◌≡◌, ℕ, ◌≤◌, true, false, leb, [], ◌++◌, Option, Some, None, codes, refl, arith}
+use Rattle.std.proofs.Common.{◌≡◌, ℕ, ◌≤◌, Bool, true, false, leb, [], ◌++◌, Option, Some, None, codes, refl, arith}
 use Rattle.std.specs.Fmt.{decimal}
 use Rattle.std.proofs.lemmas.Bool.{and_parts, leb-true}
-use Rattle.spec_script.specs.declared.script_line.ScriptLine.TheVariants.{Itron, Link, Ticks, FirstNode, SecondNode, Sem, Task, End}
+use Rattle.spec_script.specs.declared.script_line.ScriptLine.TheVariants.{Itron, Link, Ticks, FirstNode, SecondNode, Sem, Flg, Dtq, Task, End}
 use Rattle.spec_script.specs.declared.script_line.NodeLine.{NodeLine}
-use Rattle.spec_script.specs.Lines.{line_text, node_text}
+use Rattle.spec_script.specs.Lines.{order_text, waiters_text, clearing_text, start_text, field, node_text, line_text}
 use Rattle.spec_script.specs.Ranges.{within, is_at_most, is_node_in_range, is_in_range}
 use Rattle.it_types.specs.Cursor.{and_then, after}
-use Rattle.s_script.specs.LineKinds.{itron_line, link_line, ticks_line, node_at, first_node_line, second_node_line, either_node_line, sem_line, task_line, line_of}
+use Rattle.s_script.specs.LineKinds.{itron_line, link_line, ticks_line, node_at, first_node_line, second_node_line, either_node_line, sem_line, flg_line, dtq_line, task_line, line_of}
 use Rattle.it_types.proofs.Numerals.{number_again, number_last, address_again}
+use Rattle.s_script.proofs.LineFields.{number_field_again, number_field_last, order_again, waiters_again, clearing_again, start_again}
 
 -- ---- numbers in their ranges
 
@@ -71,41 +72,81 @@ unfolding line_of either_node_line first_node_line second_node_line and_then aft
 second_node_again n range = rw (node_again n range) refl
 
 -- sem ID fifo INIT MAX, of numbers
-sem_of_numbers : (id init max : ℕ) → id ≤ 16 → init ≤ max → max ≤ 65535 → line_of (line_text (Sem (Some id) (Some init) (Some max))) ≡ Some (Sem (Some id) (Some init) (Some max))
-unfolding line_of sem_line and_then after
-sem_of_numbers id init max i n m =
+sem_of_numbers : (id : ℕ) (pri : Bool) (init max : ℕ) → id ≤ 16 → init ≤ max → max ≤ 65535 → line_of (line_text (Sem (Some id) pri (Some init) (Some max))) ≡ Some (Sem (Some id) pri (Some init) (Some max))
+unfolding line_of sem_line and_then
+sem_of_numbers id pri init max i n m =
     rw (
-      number_again id (codes " fifo " ++ (decimal init ++ (codes " " ++ decimal max))) (omega arith) refl,
-      number_again init (codes " " ++ decimal max) (omega arith) refl,
-      number_last max (omega arith),
+      number_field_again id (field (order_text pri) ++ (field (decimal init) ++ field (decimal max))) (omega arith) refl,
+      order_again pri (field (decimal init) ++ field (decimal max)),
+      number_field_again init (field (decimal max)) (omega arith) refl,
+      number_field_last max (omega arith),
     ) refl
 
 -- the same of numbers that are there
-pub sem_again : (id init max : Option ℕ) → is_in_range (Sem id init max) ≡ true → line_of (line_text (Sem id init max)) ≡ Some (Sem id init max)
-sem_again id init max range =
+pub sem_again : (id : Option ℕ) (pri : Bool) (init max : Option ℕ) → is_in_range (Sem id pri init max) ≡ true → line_of (line_text (Sem id pri init max)) ≡ Some (Sem id pri init max)
+sem_again id pri init max range =
     let bounds = and_parts (within 1 id 16) _ range in
     let counts = and_parts (is_at_most init max) (within 1 max 65535) bounds.1 in
     in_bounds 1 id 16 bounds.0 λ i e x.
     in_bounds 1 max 65535 counts.1 λ m f y.
     at_most init m (rw f at counts.0) λ n g z.
-    rw (e, f, g) (sem_of_numbers i n m x z y)
+    rw (e, f, g) (sem_of_numbers i pri n m x z y)
 
--- task ID PRI act, of numbers
-task_of_numbers : (id pri : ℕ) → id ≤ 16 → pri ≤ 16 → line_of (line_text (Task (Some id) (Some pri))) ≡ Some (Task (Some id) (Some pri))
-unfolding line_of task_line and_then after
-task_of_numbers id pri i p =
+-- flg ID fifo one clr INIT, of numbers
+flg_of_numbers : (id : ℕ) (pri many clr : Bool) (init : ℕ) → id ≤ 16 → init ≤ 4294967295 → line_of (line_text (Flg (Some id) pri many clr (Some init))) ≡ Some (Flg (Some id) pri many clr (Some init))
+unfolding line_of flg_line and_then
+flg_of_numbers id pri many clr init i n =
     rw (
-      number_again id (codes " " ++ (decimal pri ++ codes " act")) (omega arith) refl,
-      number_again pri (codes " act") (omega arith) refl,
+      number_field_again id (field (order_text pri) ++ (field (waiters_text many) ++ (field (clearing_text clr) ++ field (decimal init)))) (omega arith) refl,
+      order_again pri (field (waiters_text many) ++ (field (clearing_text clr) ++ field (decimal init))),
+      waiters_again many (field (clearing_text clr) ++ field (decimal init)),
+      clearing_again clr (field (decimal init)),
+      number_field_last init (omega arith),
     ) refl
 
 -- the same of numbers that are there
-pub task_again : (id pri : Option ℕ) → is_in_range (Task id pri) ≡ true → line_of (line_text (Task id pri)) ≡ Some (Task id pri)
-task_again id pri range =
+pub flg_again : (id : Option ℕ) (pri many clr : Bool) (init : Option ℕ) → is_in_range (Flg id pri many clr init) ≡ true → line_of (line_text (Flg id pri many clr init)) ≡ Some (Flg id pri many clr init)
+flg_again id pri many clr init range =
+    let bounds = and_parts (within 1 id 16) (within 0 init 4294967295) range in
+    in_bounds 1 id 16 bounds.0 λ i e x.
+    in_bounds 0 init 4294967295 bounds.1 λ n f y.
+    rw (e, f) (flg_of_numbers i pri many clr n x y)
+
+-- dtq ID fifo CAP, of numbers
+dtq_of_numbers : (id : ℕ) (pri : Bool) (cap : ℕ) → id ≤ 16 → cap ≤ 1024 → line_of (line_text (Dtq (Some id) pri (Some cap))) ≡ Some (Dtq (Some id) pri (Some cap))
+unfolding line_of dtq_line and_then
+dtq_of_numbers id pri cap i c =
+    rw (
+      number_field_again id (field (order_text pri) ++ field (decimal cap)) (omega arith) refl,
+      order_again pri (field (decimal cap)),
+      number_field_last cap (omega arith),
+    ) refl
+
+-- the same of numbers that are there
+pub dtq_again : (id : Option ℕ) (pri : Bool) (cap : Option ℕ) → is_in_range (Dtq id pri cap) ≡ true → line_of (line_text (Dtq id pri cap)) ≡ Some (Dtq id pri cap)
+dtq_again id pri cap range =
+    let bounds = and_parts (within 1 id 16) (within 0 cap 1024) range in
+    in_bounds 1 id 16 bounds.0 λ i e x.
+    in_bounds 0 cap 1024 bounds.1 λ c f y.
+    rw (e, f) (dtq_of_numbers i pri c x y)
+
+-- task ID PRI act, of numbers
+task_of_numbers : (id pri : ℕ) (act : Bool) → id ≤ 16 → pri ≤ 16 → line_of (line_text (Task (Some id) (Some pri) act)) ≡ Some (Task (Some id) (Some pri) act)
+unfolding line_of task_line and_then
+task_of_numbers id pri act i p =
+    rw (
+      number_field_again id (field (decimal pri) ++ field (start_text act)) (omega arith) refl,
+      number_field_again pri (field (start_text act)) (omega arith) refl,
+      start_again act,
+    ) refl
+
+-- the same of numbers that are there
+pub task_again : (id pri : Option ℕ) (act : Bool) → is_in_range (Task id pri act) ≡ true → line_of (line_text (Task id pri act)) ≡ Some (Task id pri act)
+task_again id pri act range =
     let bounds = and_parts (within 1 id 16) (within 1 pri 16) range in
     in_bounds 1 id 16 bounds.0 λ i e x.
     in_bounds 1 pri 16 bounds.1 λ p f y.
-    rw (e, f) (task_of_numbers i p x y)
+    rw (e, f) (task_of_numbers i p act x y)
 
 -- itron 1
 pub itron_again : line_of (line_text Itron) ≡ Some Itron

@@ -3,14 +3,15 @@ use Rattle.std.proofs.Common.{◌≡◌, ℕ, Bool, true, false, List, [], ◌++
 use Rattle.std.proofs.lemmas.Bool.{and_parts}
 use Rattle.std.proofs.lemmas.List.{append-nil}
 use Rattle.spec_script.specs.declared.script_line.ScriptLine.{ScriptLine}
-use Rattle.spec_script.specs.declared.script_line.ScriptLine.TheVariants.{Itron, Link, Ticks, FirstNode, SecondNode, Sem, Task, Call, End}
+use Rattle.spec_script.specs.declared.script_line.ScriptLine.TheVariants.{Itron, Link, Ticks, FirstNode, SecondNode, Sem, Flg, Dtq, Task, Call, End}
 use Rattle.spec_script.specs.declared.script_line.NodeLine.{NodeLine}
-use Rattle.spec_script.specs.Lines.{line_text, number_text, node_text}
+use Rattle.spec_script.specs.Lines.{line_text, number_text, start_text, node_text}
 use Rattle.spec_script.specs.Ranges.{within, is_at_most, is_node_in_range, is_in_range, is_written_call}
-use Rattle.it_types.specs.Cursor.{or_else, at_end}
-use Rattle.s_script.specs.LineKinds.{itron_line, link_line, ticks_line, node_at, first_node_line, second_node_line, either_node_line, sem_line, task_line, end_line}
+use Rattle.it_types.specs.Cursor.{at_end}
+use Rattle.s_script.specs.LineKinds.{itron_line, link_line, ticks_line, node_at, first_node_line, second_node_line, either_node_line, sem_line, flg_line, dtq_line, task_line, end_line}
 use Rattle.it_types.proofs.ReadSteps.{read_step, found_is, at_end_is, after_takes}
 use Rattle.it_types.proofs.Numerals.{number_takes, address_takes}
+use Rattle.s_script.proofs.LineFields.{either, number_field_takes, choice_field_takes, order_takes}
 
 -- a line whose call, if it is one, can be written
 abbrev pub is_written : ScriptLine → Bool
@@ -106,11 +107,6 @@ second_node_takes bytes l e =
       );
     })
 
--- what the first or else the second reads
-pub either : {A P : Type 0} (first second : Option A) (y : A) → or_else first second ≡ Some y → (first ≡ Some y → P) → (second ≡ Some y → P) → P
-either None second y e one other = other e
-either (Some x) second y e one other = one e
-
 -- either node
 pub node_kind_takes : (bytes : List ℕ) (l : ScriptLine) → either_node_line bytes ≡ Some l → Takes (codes "node" ++ bytes) l
 unfolding either_node_line
@@ -120,12 +116,59 @@ node_kind_takes bytes l e = either (first_node_line bytes) (second_node_line byt
 pub sem_takes : (bytes : List ℕ) (l : ScriptLine) → sem_line bytes ≡ Some l → Takes (codes "sem" ++ bytes) l
 unfolding sem_line
 sem_takes bytes l e =
-    read_step e λ rest1 p e1. read_step e1 λ id q e2. read_step e2 λ rest2 r e3. read_step e3 λ init s e4. read_step e4 λ rest3 t e5. read_step e5 λ max u e6.
-    at_end_takes (codes "sem" ++ bytes) max.1 (Sem id.0 init.0 max.0) l e6 (λ nil. record {
+    read_step e λ id p e1. read_step e1 λ pri q e2. read_step e2 λ init r e3. read_step e3 λ max s e4.
+    at_end_takes (codes "sem" ++ bytes) max.1 (Sem id.0 pri.0 init.0 max.0) l e4 (λ nil. record {
       fact = λ range.
           let bounds = and_parts (within 1 id.0 16) _ range in
           let counts = and_parts (is_at_most init.0 max.0) (within 1 max.0 65535) bounds.1 in (
-            rw (after_takes (codes " ") bytes rest1 p, number_takes rest1 id q (within_some _ id.0 _ bounds.0), after_takes (codes " fifo ") id.1 rest2 r, number_takes rest2 init s (at_most_some init.0 max.0 counts.0), after_takes (codes " ") init.1 rest3 t, number_takes rest3 max u (within_some _ max.0 _ counts.1), nil, append-nil (number_text max.0)) refl,
+            rw (
+              number_field_takes bytes id p (within_some _ id.0 _ bounds.0),
+              order_takes id.1 pri q,
+              number_field_takes pri.1 init r (at_most_some init.0 max.0 counts.0),
+              number_field_takes init.1 max s (within_some _ max.0 _ counts.1),
+              nil,
+              append-nil (number_text max.0),
+            ) refl,
+            refl,
+          );
+    })
+
+-- flg ID fifo one clr INIT
+pub flg_takes : (bytes : List ℕ) (l : ScriptLine) → flg_line bytes ≡ Some l → Takes (codes "flg" ++ bytes) l
+unfolding flg_line
+flg_takes bytes l e =
+    read_step e λ id p e1. read_step e1 λ pri q e2. read_step e2 λ many r e3. read_step e3 λ clr s e4. read_step e4 λ init t e5.
+    at_end_takes (codes "flg" ++ bytes) init.1 (Flg id.0 pri.0 many.0 clr.0 init.0) l e5 (λ nil. record {
+      fact = λ range.
+          let bounds = and_parts (within 1 id.0 16) (within 0 init.0 4294967295) range in (
+            rw (
+              number_field_takes bytes id p (within_some _ id.0 _ bounds.0),
+              order_takes id.1 pri q,
+              choice_field_takes (codes "many") (codes "one") pri.1 many r,
+              choice_field_takes (codes "clr") (codes "keep") many.1 clr s,
+              number_field_takes clr.1 init t (within_some _ init.0 _ bounds.1),
+              nil,
+              append-nil (number_text init.0),
+            ) refl,
+            refl,
+          );
+    })
+
+-- dtq ID fifo CAP
+pub dtq_takes : (bytes : List ℕ) (l : ScriptLine) → dtq_line bytes ≡ Some l → Takes (codes "dtq" ++ bytes) l
+unfolding dtq_line
+dtq_takes bytes l e =
+    read_step e λ id p e1. read_step e1 λ pri q e2. read_step e2 λ cap r e3.
+    at_end_takes (codes "dtq" ++ bytes) cap.1 (Dtq id.0 pri.0 cap.0) l e3 (λ nil. record {
+      fact = λ range.
+          let bounds = and_parts (within 1 id.0 16) (within 0 cap.0 1024) range in (
+            rw (
+              number_field_takes bytes id p (within_some _ id.0 _ bounds.0),
+              order_takes id.1 pri q,
+              number_field_takes pri.1 cap r (within_some _ cap.0 _ bounds.1),
+              nil,
+              append-nil (number_text cap.0),
+            ) refl,
             refl,
           );
     })
@@ -134,11 +177,17 @@ sem_takes bytes l e =
 pub task_takes : (bytes : List ℕ) (l : ScriptLine) → task_line bytes ≡ Some l → Takes (codes "task" ++ bytes) l
 unfolding task_line
 task_takes bytes l e =
-    read_step e λ rest1 p e1. read_step e1 λ id q e2. read_step e2 λ rest2 r e3. read_step e3 λ pri s e4. read_step e4 λ end t e5.
-    at_end_takes (codes "task" ++ bytes) end (Task id.0 pri.0) l e5 (λ nil. record {
+    read_step e λ id p e1. read_step e1 λ pri q e2. read_step e2 λ act r e3.
+    at_end_takes (codes "task" ++ bytes) act.1 (Task id.0 pri.0 act.0) l e3 (λ nil. record {
       fact = λ range.
           let bounds = and_parts (within 1 id.0 16) (within 1 pri.0 16) range in (
-            rw (after_takes (codes " ") bytes rest1 p, number_takes rest1 id q (within_some _ id.0 _ bounds.0), after_takes (codes " ") id.1 rest2 r, number_takes rest2 pri s (within_some _ pri.0 _ bounds.1), after_takes (codes " act") pri.1 end t, nil) refl,
+            rw (
+              number_field_takes bytes id p (within_some _ id.0 _ bounds.0),
+              number_field_takes id.1 pri q (within_some _ pri.0 _ bounds.1),
+              choice_field_takes (codes "act") (codes "dor") pri.1 act r,
+              nil,
+              append-nil (start_text act.0),
+            ) refl,
             refl,
           );
     })

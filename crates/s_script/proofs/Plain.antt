@@ -26,8 +26,8 @@ use Rattle.it_types.specs.Lines.{call_word, call_fields_text, call_is_in_range, 
 use Rattle.it_types.proofs.Finding.{found_passes}
 use Rattle.it_types.proofs.LineLaws.{row}
 use Rattle.spec_script.specs.declared.script_line.ScriptLine.{ScriptLine}
-use Rattle.spec_script.specs.declared.script_line.ScriptLine.TheVariants.{Itron, Link, Ticks, FirstNode, SecondNode, Sem, Task, Call, End}
-use Rattle.spec_script.specs.Lines.{line_text, node_text, ended}
+use Rattle.spec_script.specs.declared.script_line.ScriptLine.TheVariants.{Itron, Link, Ticks, FirstNode, SecondNode, Sem, Flg, Dtq, Task, Call, End}
+use Rattle.spec_script.specs.Lines.{choice_text, order_text, waiters_text, clearing_text, start_text, field, node_text, line_text, ended}
 use Rattle.spec_script.specs.Ranges.{within, is_at_most, is_node_in_range, is_in_range, data_limit, is_written_call}
 use Rattle.spec_script.specs.Today.{may_write}
 use Rattle.spec_script.specs.Text.{onto_first, split_lines}
@@ -139,27 +139,62 @@ node_plain addr isn0 top0 range =
     in_bounds 0 top0 2000000000 others.1 λ t g z.
     rw (e, f, g) (address_plain a (codes " " ++ (decimal i ++ (codes " " ++ decimal t))) x (then_plain i (codes " " ++ decimal t) (omega arith) (number_plain t (omega arith))))
 
+-- plain bytes after plain ones
+both_plain : (front rest : List ℕ) → is_plain front ≡ true → is_plain rest ≡ true → is_plain (front ++ rest) ≡ true
+both_plain front rest one other = rw (list_all-append is_no_lf front rest, one, other) refl
+
+-- one of two words and what follows it
+choice_plain : (one other : List ℕ) (holds : Bool) (rest : List ℕ) → is_plain one ≡ true → is_plain other ≡ true → is_plain rest ≡ true → is_plain (choice_text one other holds ++ rest) ≡ true
+choice_plain one other true rest first second more = both_plain one rest first more
+choice_plain one other false rest first second more = both_plain other rest second more
+
+-- whether tasks wait by their priorities, and what follows it
+order_plain : (pri : Bool) (rest : List ℕ) → is_plain rest ≡ true → is_plain (order_text pri ++ rest) ≡ true
+order_plain pri rest more = choice_plain (codes "pri") (codes "fifo") pri rest refl refl more
+
+-- whether a task is active
+start_plain : (act : Bool) → is_plain (start_text act) ≡ true
+start_plain true = refl
+start_plain false = refl
+
 -- sem ID fifo INIT MAX
-sem_plain : (id init max : Option ℕ) → is_in_range (Sem id init max) ≡ true → is_plain (line_text (Sem id init max)) ≡ true
-sem_plain id init max range =
+sem_plain : (id : Option ℕ) (pri : Bool) (init max : Option ℕ) → is_in_range (Sem id pri init max) ≡ true → is_plain (line_text (Sem id pri init max)) ≡ true
+sem_plain id pri init max range =
     let bounds = and_parts (within 1 id 16) _ range in
     let counts = and_parts (is_at_most init max) (within 1 max 65535) bounds.1 in
     in_bounds 1 id 16 bounds.0 λ i e x.
     in_bounds 1 max 65535 counts.1 λ m f y.
     at_most init m (rw f at counts.0) λ n g z.
-    rw (e, f, g) (then_plain i (codes " fifo " ++ (decimal n ++ (codes " " ++ decimal m))) (omega arith) (then_plain n (codes " " ++ decimal m) (omega arith) (number_plain m (omega arith))))
+    rw (e, f, g) (then_plain i (field (order_text pri) ++ (field (decimal n) ++ field (decimal m))) (omega arith)
+    (order_plain pri (field (decimal n) ++ field (decimal m))
+    (then_plain n (field (decimal m)) (omega arith) (number_plain m (omega arith)))))
+
+-- flg ID fifo one clr INIT
+flg_plain : (id : Option ℕ) (pri many clr : Bool) (init : Option ℕ) → is_in_range (Flg id pri many clr init) ≡ true → is_plain (line_text (Flg id pri many clr init)) ≡ true
+flg_plain id pri many clr init range =
+    let bounds = and_parts (within 1 id 16) (within 0 init 4294967295) range in
+    in_bounds 1 id 16 bounds.0 λ i e x.
+    in_bounds 0 init 4294967295 bounds.1 λ n f y.
+    rw (e, f) (then_plain i (field (order_text pri) ++ (field (waiters_text many) ++ (field (clearing_text clr) ++ field (decimal n)))) (omega arith)
+    (order_plain pri (field (waiters_text many) ++ (field (clearing_text clr) ++ field (decimal n)))
+    (choice_plain (codes "many") (codes "one") many (field (clearing_text clr) ++ field (decimal n)) refl refl
+    (choice_plain (codes "clr") (codes "keep") clr (field (decimal n)) refl refl (number_plain n (omega arith))))))
+
+-- dtq ID fifo CAP
+dtq_plain : (id : Option ℕ) (pri : Bool) (cap : Option ℕ) → is_in_range (Dtq id pri cap) ≡ true → is_plain (line_text (Dtq id pri cap)) ≡ true
+dtq_plain id pri cap range =
+    let bounds = and_parts (within 1 id 16) (within 0 cap 1024) range in
+    in_bounds 1 id 16 bounds.0 λ i e x.
+    in_bounds 0 cap 1024 bounds.1 λ c f y.
+    rw (e, f) (then_plain i (field (order_text pri) ++ field (decimal c)) (omega arith) (order_plain pri (field (decimal c)) (number_plain c (omega arith))))
 
 -- task ID PRI act
-task_plain : (id pri : Option ℕ) → is_in_range (Task id pri) ≡ true → is_plain (line_text (Task id pri)) ≡ true
-task_plain id pri range =
+task_plain : (id pri : Option ℕ) (act : Bool) → is_in_range (Task id pri act) ≡ true → is_plain (line_text (Task id pri act)) ≡ true
+task_plain id pri act range =
     let bounds = and_parts (within 1 id 16) (within 1 pri 16) range in
     in_bounds 1 id 16 bounds.0 λ i e x.
     in_bounds 1 pri 16 bounds.1 λ p f y.
-    rw (e, f) (then_plain i (codes " " ++ (decimal p ++ codes " act")) (omega arith) (then_plain p (codes " act") (omega arith) refl))
-
--- plain bytes after plain ones
-both_plain : (front rest : List ℕ) → is_plain front ≡ true → is_plain rest ≡ true → is_plain (front ++ rest) ≡ true
-both_plain front rest one other = rw (list_all-append is_no_lf front rest, one, other) refl
+    rw (e, f) (then_plain i (field (decimal p) ++ field (start_text act)) (omega arith) (then_plain p (field (start_text act)) (omega arith) (start_plain act)))
 
 -- ---- a call, by the kinds of its fields
 
@@ -242,7 +277,9 @@ line_plain (Link key) range written = in_bounds 0 key 18446744073709551615 range
 line_plain (Ticks ticks) range written = in_bounds 0 ticks 400000 range λ t e high. rw e (number_plain t (omega arith))
 line_plain (FirstNode n) range written = node_plain n.addr n.isn0 n.top0 range
 line_plain (SecondNode n) range written = node_plain n.addr n.isn0 n.top0 range
-line_plain (Sem id init max) range written = sem_plain id init max range
-line_plain (Task id pri) range written = task_plain id pri range
+line_plain (Sem id pri init max) range written = sem_plain id pri init max range
+line_plain (Flg id pri many clr init) range written = flg_plain id pri many clr init range
+line_plain (Dtq id pri cap) range written = dtq_plain id pri cap range
+line_plain (Task id pri act) range written = task_plain id pri act range
 line_plain (Call request fits) range written = call_plain request written
 line_plain End range written = refl

@@ -1,12 +1,11 @@
 -- The lines of a good script are taken one after the other, and make that script.
-use Rattle.std.proofs.Common.{◌≡◌, ℕ, ◌+◌, ◌≤◌, Bool, true, false, not, ◌&&◌, eqb, ltb, leb, List, [], ◌∷◌, ◌++◌, length, map, Option, Some, None, refl, sym, ◌∙◌, subst, append_assoc, arith}
+use Rattle.std.proofs.Common.{◌≡◌, ℕ, ◌+◌, ◌≤◌, true, false, not, eqb, ltb, leb, List, [], ◌∷◌, ◌++◌, length, map, Option, Some, None, refl, sym, ◌∙◌, subst, append_assoc, arith}
 use Rattle.std.specs.Prelude.{slice_index_or}
 use Rattle.std.specs.List.{list_all, flat_map}
 use Rattle.std.proofs.lemmas.Bool.{and_parts, not-true, ne_eqb, leb-true, lt-ltb}
 use Rattle.std.proofs.lemmas.List.{append-nil, length_push}
 use Rattle.std.proofs.lemmas.List.Folds.{list_all-append}
 use Rattle.it_types.specs.declared.conf.TaskDecl.{TaskDecl}
-use Rattle.it_types.specs.declared.conf.SemDecl.{SemDecl}
 use Rattle.spec_script.specs.declared.script.Script.{Script}
 use Rattle.spec_script.specs.declared.script.NodeDecl.{NodeDecl}
 use Rattle.spec_script.specs.declared.decl.Decl.{Decl}
@@ -15,7 +14,7 @@ use Rattle.spec_script.specs.declared.decl.Body.{Body}
 use Rattle.spec_script.specs.declared.decl.Line.{Line}
 use Rattle.spec_script.specs.declared.decl.Line.TheVariants as body_lines
 use Rattle.spec_script.specs.declared.script_line.ScriptLine.{ScriptLine}
-use Rattle.spec_script.specs.declared.script_line.ScriptLine.TheVariants.{Link, Ticks, FirstNode, SecondNode, Sem, Task, End}
+use Rattle.spec_script.specs.declared.script_line.ScriptLine.TheVariants.{Link, Ticks, FirstNode, SecondNode, Sem, Flg, Dtq, Task, End}
 use Rattle.spec_script.specs.Lines.{no_node, first_node, second_node, key_of, node_line, body_line, declaration_lines, lines_of}
 use Rattle.spec_script.specs.Ranges.{is_in_range, is_repeated, is_written_call, is_written_line, is_written_declaration, are_distinct, IsGood}
 use Rattle.s_script.specs.declared.draft.Stage.TheVariants.{Declares, InTask}
@@ -77,50 +76,19 @@ first_good before d ds g =
     let distinct = and_parts (not (is_repeated before d)) (are_distinct (before ++ (d ∷ [])) ds) g.distinct in
     record { ranges = ranges.0; written = written.0; fresh = not-true (is_repeated before d) distinct.0; others = record { ranges = ranges.1; written = written.1; distinct = distinct.1 } }
 
--- a written semaphore is one on which tasks wait by arrival
-abbrev sem_of : ℕ → Bool → ℕ → ℕ → SemDecl
-sem_of id pri init max = record { id = id; pri = pri; init = init; max = max }
-
--- the declaration that its line gives is the same one
-sem_is : (id : ℕ) (pri : Bool) (init max : ℕ) → not pri ≡ true → sem_of id false init max ≡ sem_of id pri init max
-sem_is id false init max e = refl
-sem_is id true init max e = absurd (let none : false ≡ true = e in cc)
-
--- a semaphore's declaration is taken
-sem_runs : (P : Draft → Type 0) (key ticks : ℕ) (first : Option NodeDecl) (n : NodeDecl) (before : List Decl) (task : TaskDecl) (sem : SemDecl) (ds : List Decl) (more : List ScriptLine)
-    → FirstGood before (declarations.Sem sem) ds → Runs P (between key ticks first n (before ++ (declarations.Sem sem ∷ [])) task) more → Runs P (between key ticks first n before task) (declaration_lines (declarations.Sem sem) ++ more)
-sem_runs P key ticks first n before task sem ds more g h =
-    let range = and_parts (is_in_range (Sem (Some sem.id) (Some sem.init) (Some sem.max))) true g.ranges in (
-      record { place = refl; range = range.0; room = refl; fresh = g.fresh },
-      refl,
-      subst (λ (x : SemDecl). Runs P (between key ticks first n (before ++ (declarations.Sem x ∷ [])) task) more) (sym (sem_is sem.id sem.pri sem.init sem.max g.written)) h,
-    )
-
--- a written task begins at the start
-abbrev task_of : ℕ → ℕ → Bool → TaskDecl
-task_of id pri act = record { id = id; pri = pri; act = act }
-
--- the task that its line gives is the same one
-task_is : (id pri : ℕ) (act : Bool) → act ≡ true → task_of id pri true ≡ task_of id pri act
-task_is id pri true e = refl
-task_is id pri false e = absurd (let none : false ≡ true = e in cc)
-
 -- a task's declaration is taken
 task_runs : (P : Draft → Type 0) (key ticks : ℕ) (first : Option NodeDecl) (n : NodeDecl) (before : List Decl) (open_task task : TaskDecl) (body : Body) (ds : List Decl) (more : List ScriptLine)
     → FirstGood before (declarations.Task task body) ds → ((t : TaskDecl) → Runs P (between key ticks first n (before ++ (declarations.Task task body ∷ [])) t) more)
     → Runs P (between key ticks first n before open_task) (declaration_lines (declarations.Task task body) ++ more)
 task_runs P key ticks first n before open_task task body ds more g h =
-    let t = task_of task.id task.pri true in
-    let range = and_parts (is_in_range (Task (Some task.id) (Some task.pri))) (list_all is_in_range (map body_line body.lines ++ (End ∷ []))) g.ranges in
-    let written = and_parts task.act (leb (length body.lines) 1000 && list_all is_written_line body.lines) g.written in
-    let calls = and_parts (leb (length body.lines) 1000) (list_all is_written_line body.lines) written.1 in
+    let range = and_parts (is_in_range (Task (Some task.id) (Some task.pri) task.act)) (list_all is_in_range (map body_line body.lines ++ (End ∷ []))) g.ranges in
+    let calls = and_parts (leb (length body.lines) 1000) (list_all is_written_line body.lines) g.written in
     let short : 0 + length body.lines ≤ 1000 = omega (arith, leb-true (length body.lines) 1000 calls.0) in
-    let declared_task : Runs P (between key ticks first n (before ++ (declarations.Task t body ∷ [])) t) more = subst (λ (x : TaskDecl). Runs P (between key ticks first n (before ++ (declarations.Task x body ∷ [])) t) more) (sym (task_is task.id task.pri task.act written.0)) (h t) in
-    let ended : Runs P (in_task key ticks first (record n { decls = before }) t body.lines) (End ∷ more) = (record { place = refl; range = refl; room = refl; fresh = refl }, refl, declared_task) in (
+    let ended : Runs P (in_task key ticks first (record n { decls = before }) task body.lines) (End ∷ more) = (record { place = refl; range = refl; room = refl; fresh = refl }, refl, h task) in (
       record { place = refl; range = range.0; room = refl; fresh = g.fresh },
       refl,
-      subst (λ (ls : List ScriptLine). Runs P (in_task key ticks first (record n { decls = before }) t []) ls) (sym (append_assoc (map body_line body.lines) (End ∷ []) more))
-          (body_runs P body.lines key ticks first (record n { decls = before }) t [] (End ∷ more) calls.1 short ended),
+      subst (λ (ls : List ScriptLine). Runs P (in_task key ticks first (record n { decls = before }) task []) ls) (sym (append_assoc (map body_line body.lines) (End ∷ []) more))
+          (body_runs P body.lines key ticks first (record n { decls = before }) task [] (End ∷ more) calls.1 short ended),
     )
 
 -- declarations are taken one after the other
@@ -129,9 +97,25 @@ declarations_run : (P : Draft → Type 0) (ds : List Decl) (key ticks : ℕ) (fi
 declarations_run P [] key ticks first n before task more g h = subst (λ (x : List Decl). Runs P (between key ticks first n x task) more) (append-nil before) (h task)
 declarations_run P (declarations.Sem sem ∷ ds) key ticks first n before task more g h =
     let f = first_good before (declarations.Sem sem) ds g in
-    let regrouped : before ++ (declarations.Sem sem ∷ ds) ≡ (before ++ (declarations.Sem sem ∷ [])) ++ ds = sym (append_assoc before (declarations.Sem sem ∷ []) ds) in
-    sem_runs P key ticks first n before task sem ds (flat_map declaration_lines ds ++ more) f
-    (declarations_run P ds key ticks first n (before ++ (declarations.Sem sem ∷ [])) task more f.others (λ t. subst (λ (x : List Decl). Runs P (between key ticks first n x t) more) regrouped (h t)))
+    let regrouped : before ++ (declarations.Sem sem ∷ ds) ≡ (before ++ (declarations.Sem sem ∷ [])) ++ ds = sym (append_assoc before (declarations.Sem sem ∷ []) ds) in (
+      record { place = refl; range = (and_parts (is_in_range (Sem (Some sem.id) sem.pri (Some sem.init) (Some sem.max))) true f.ranges).0; room = refl; fresh = f.fresh },
+      refl,
+      declarations_run P ds key ticks first n (before ++ (declarations.Sem sem ∷ [])) task more f.others (λ t. subst (λ (x : List Decl). Runs P (between key ticks first n x t) more) regrouped (h t)),
+    )
+declarations_run P (declarations.Flg flag ∷ ds) key ticks first n before task more g h =
+    let f = first_good before (declarations.Flg flag) ds g in
+    let regrouped : before ++ (declarations.Flg flag ∷ ds) ≡ (before ++ (declarations.Flg flag ∷ [])) ++ ds = sym (append_assoc before (declarations.Flg flag ∷ []) ds) in (
+      record { place = refl; range = (and_parts (is_in_range (Flg (Some flag.id) flag.pri flag.many flag.clr (Some flag.init))) true f.ranges).0; room = refl; fresh = f.fresh },
+      refl,
+      declarations_run P ds key ticks first n (before ++ (declarations.Flg flag ∷ [])) task more f.others (λ t. subst (λ (x : List Decl). Runs P (between key ticks first n x t) more) regrouped (h t)),
+    )
+declarations_run P (declarations.Dtq queue ∷ ds) key ticks first n before task more g h =
+    let f = first_good before (declarations.Dtq queue) ds g in
+    let regrouped : before ++ (declarations.Dtq queue ∷ ds) ≡ (before ++ (declarations.Dtq queue ∷ [])) ++ ds = sym (append_assoc before (declarations.Dtq queue ∷ []) ds) in (
+      record { place = refl; range = (and_parts (is_in_range (Dtq (Some queue.id) queue.pri (Some queue.cap))) true f.ranges).0; room = refl; fresh = f.fresh },
+      refl,
+      declarations_run P ds key ticks first n (before ++ (declarations.Dtq queue ∷ [])) task more f.others (λ t. subst (λ (x : List Decl). Runs P (between key ticks first n x t) more) regrouped (h t)),
+    )
 declarations_run P (declarations.Task own body ∷ ds) key ticks first n before task more g h =
     let f = first_good before (declarations.Task own body) ds g in
     let regrouped : before ++ (declarations.Task own body ∷ ds) ≡ (before ++ (declarations.Task own body ∷ [])) ++ ds = sym (append_assoc before (declarations.Task own body ∷ []) ds) in

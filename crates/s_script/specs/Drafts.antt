@@ -3,16 +3,19 @@
 use Rattle.std.specs.Prelude.{ℕ, Bool, true, false, not, ◌&&◌, List, [], ◌∷◌, ◌++◌, length, Option, Some, None, is_some, unwrap_or, map, nat_lt, ◌==◌, if◌then◌else◌}
 use Rattle.std.specs.List.{flat_map, list_any}
 use Rattle.it_types.specs.declared.conf.TaskDecl.{TaskDecl}
+use Rattle.it_types.specs.declared.conf.SemDecl.{SemDecl}
+use Rattle.it_types.specs.declared.conf.FlgDecl.{FlgDecl}
+use Rattle.it_types.specs.declared.conf.DtqDecl.{DtqDecl}
 use Rattle.spec_script.specs.declared.script.Script.{Script}
 use Rattle.spec_script.specs.declared.script.NodeDecl.{NodeDecl}
 use Rattle.spec_script.specs.declared.decl.Decl.{Decl}
 use Rattle.spec_script.specs.declared.decl.Decl.TheVariants as declarations
 use Rattle.spec_script.specs.declared.decl.Line.TheVariants as body_lines
 use Rattle.spec_script.specs.declared.script_line.ScriptLine.{ScriptLine}
-use Rattle.spec_script.specs.declared.script_line.ScriptLine.TheVariants.{Itron, Link, Ticks, FirstNode, SecondNode, Sem, Task, Call, End}
+use Rattle.spec_script.specs.declared.script_line.ScriptLine.TheVariants.{Itron, Link, Ticks, FirstNode, SecondNode, Sem, Flg, Dtq, Task, Call, End}
 use Rattle.spec_script.specs.declared.script_line.NodeLine.{NodeLine}
 use Rattle.spec_script.specs.Lines.{no_node, node_line, body_line, declaration_lines}
-use Rattle.spec_script.specs.Ranges.{is_in_range, body_limit, is_task, is_semaphore}
+use Rattle.spec_script.specs.Ranges.{is_in_range, body_limit, is_task, is_semaphore, is_flag, is_queue}
 use Rattle.s_script.specs.declared.read_bad.Why.{Why}
 use Rattle.s_script.specs.declared.read_bad.Why.TheVariants.{Form, Range, Twice}
 use Rattle.s_script.specs.declared.draft.Stage.{Stage}
@@ -53,7 +56,7 @@ lines_at Headed d = Itron ∷ []
 lines_at Linked d = Itron ∷ Link (Some d.key) ∷ []
 lines_at Timed d = Itron ∷ Link (Some d.key) ∷ Ticks (Some d.ticks) ∷ []
 lines_at Declares d = begun d ++ flat_map declaration_lines d.node.decls
-lines_at InTask d = begun d ++ (flat_map declaration_lines d.node.decls ++ (Task (Some d.task.id) (Some d.task.pri) ∷ map body_line d.body))
+lines_at InTask d = begun d ++ (flat_map declaration_lines d.node.decls ++ (Task (Some d.task.id) (Some d.task.pri) d.task.act ∷ map body_line d.body))
 
 -- ---- what is wrong with a line
 
@@ -67,8 +70,10 @@ in_place Start last Itron = true
 in_place Headed last (Link key) = true
 in_place Linked last (Ticks ticks) = true
 in_place Timed last (FirstNode n) = true
-in_place Declares last (Sem id init max) = true
-in_place Declares last (Task id pri) = true
+in_place Declares last (Sem id pri init max) = true
+in_place Declares last (Flg id pri many clr init) = true
+in_place Declares last (Dtq id pri cap) = true
+in_place Declares last (Task id pri act) = true
 in_place Declares last (SecondNode n) = not last
 in_place InTask last (Call request fits) = true
 in_place InTask last End = true
@@ -78,25 +83,15 @@ in_place _ _ _ = false
 abbrev pub has_room : Draft → ScriptLine → Bool
 has_room d (SecondNode n) = not (unwrap_or n.addr 0 == d.node.addr)
 has_room d (Call request fits) = nat_lt (length d.body) body_limit
-has_room d Itron = true
-has_room d (Link key) = true
-has_room d (Ticks ticks) = true
-has_room d (FirstNode n) = true
-has_room d (Sem id init max) = true
-has_room d (Task id pri) = true
-has_room d End = true
+has_room d _ = true
 
 -- the node has declared the id of this kind before
 abbrev pub is_declared : Draft → ScriptLine → Bool
-is_declared d (Sem id init max) = list_any (is_semaphore (unwrap_or id 0)) d.node.decls
-is_declared d (Task id pri) = list_any (is_task (unwrap_or id 0)) d.node.decls
-is_declared d Itron = false
-is_declared d (Link key) = false
-is_declared d (Ticks ticks) = false
-is_declared d (FirstNode n) = false
-is_declared d (SecondNode n) = false
-is_declared d (Call request fits) = false
-is_declared d End = false
+is_declared d (Sem id pri init max) = list_any (is_semaphore (unwrap_or id 0)) d.node.decls
+is_declared d (Flg id pri many clr init) = list_any (is_flag (unwrap_or id 0)) d.node.decls
+is_declared d (Dtq id pri cap) = list_any (is_queue (unwrap_or id 0)) d.node.decls
+is_declared d (Task id pri act) = list_any (is_task (unwrap_or id 0)) d.node.decls
+is_declared d _ = false
 
 -- the cause of the first test that is true
 abbrev pub first_cause : List (Bool × Why) → Option Why
@@ -113,9 +108,25 @@ cause d l = first_cause ((not (in_place d.stage (is_last d) l), Form) ∷ (not (
 abbrev pub node_of : NodeLine → NodeDecl
 node_of n = record { addr = unwrap_or n.addr 0; isn0 = unwrap_or n.isn0 0; top0 = unwrap_or n.top0 0; decls = [] }
 
+abbrev pub task_of : Option ℕ → Option ℕ → Bool → TaskDecl
+task_of id pri act = record { id = unwrap_or id 0; pri = unwrap_or pri 0; act = act }
+
+abbrev pub semaphore_of : Option ℕ → Bool → Option ℕ → Option ℕ → SemDecl
+semaphore_of id pri init max = record { id = unwrap_or id 0; pri = pri; init = unwrap_or init 0; max = unwrap_or max 0 }
+
+abbrev pub flag_of : Option ℕ → Bool → Bool → Bool → Option ℕ → FlgDecl
+flag_of id pri many clr init = record { id = unwrap_or id 0; pri = pri; many = many; clr = clr; init = unwrap_or init 0 }
+
+abbrev pub queue_of : Option ℕ → Bool → Option ℕ → DtqDecl
+queue_of id pri cap = record { id = unwrap_or id 0; pri = pri; cap = unwrap_or cap 0 }
+
 -- one more declaration of a node
 abbrev pub declared : NodeDecl → Decl → NodeDecl
 declared n declaration = record n { decls = n.decls ++ declaration ∷ [] }
+
+-- the draft after the line of an object
+abbrev pub with_object : Draft → Decl → Draft
+with_object d declaration = record d { stage = Declares; node = declared d.node declaration }
 
 -- the draft after the line
 abbrev pub moved : Draft → ScriptLine → Draft
@@ -124,7 +135,9 @@ moved d (Link key) = record d { stage = Linked; key = unwrap_or key 0 }
 moved d (Ticks ticks) = record d { stage = Timed; ticks = unwrap_or ticks 0 }
 moved d (FirstNode n) = record d { stage = Declares; first = None; node = node_of n }
 moved d (SecondNode n) = record d { stage = Declares; first = Some d.node; node = node_of n }
-moved d (Sem id init max) = record d { stage = Declares; node = declared d.node (declarations.Sem (record { id = unwrap_or id 0; pri = false; init = unwrap_or init 0; max = unwrap_or max 0 })) }
-moved d (Task id pri) = record d { stage = InTask; task = record { id = unwrap_or id 0; pri = unwrap_or pri 0; act = true }; body = [] }
+moved d (Sem id pri init max) = with_object d (declarations.Sem (semaphore_of id pri init max))
+moved d (Flg id pri many clr init) = with_object d (declarations.Flg (flag_of id pri many clr init))
+moved d (Dtq id pri cap) = with_object d (declarations.Dtq (queue_of id pri cap))
+moved d (Task id pri act) = record d { stage = InTask; task = task_of id pri act; body = [] }
 moved d (Call request fits) = record d { stage = InTask; body = d.body ++ body_lines.Call request ∷ [] }
 moved d End = record d { stage = Declares; node = declared d.node (declarations.Task d.task (record { lines = d.body })); body = [] }

@@ -1,13 +1,13 @@
 -- Which line bytes are read as: one definition for each kind of line but calls, over the bytes after its first word. It is this
 -- project's own.
-use Rattle.std.specs.Prelude.{ℕ, Bool, List, [], ◌∷◌, Option, Some, None, if◌then◌else◌, codes, nat_eq}
+use Rattle.std.specs.Prelude.{ℕ, Bool, true, false, List, [], ◌∷◌, Option, Some, None, if◌then◌else◌, codes, nat_eq}
 use Rattle.std.specs.Cmp.Lexicographic.{pointwise}
 use Rattle.it_types.specs.declared.request.Req.{Req}
 use Rattle.it_types.specs.Cursor.{◌>>=◌, or_else, after, at_end, split_while, is_no_space}
 use Rattle.it_types.specs.Numbers.{number_at, address_at}
 use Rattle.it_types.specs.Lines.{call_of}
 use Rattle.spec_script.specs.declared.script_line.ScriptLine.{ScriptLine}
-use Rattle.spec_script.specs.declared.script_line.ScriptLine.TheVariants.{Itron, Link, Ticks, FirstNode, SecondNode, Sem, Task, Call, End}
+use Rattle.spec_script.specs.declared.script_line.ScriptLine.TheVariants.{Itron, Link, Ticks, FirstNode, SecondNode, Sem, Flg, Dtq, Task, Call, End}
 use Rattle.spec_script.specs.declared.script_line.NodeLine.{NodeLine}
 use Rattle.spec_script.specs.Today.{may_write}
 use Rattle.spec_script.specs.Ranges.{data_limit}
@@ -73,26 +73,73 @@ second_node_line bytes = do
 unfoldable pub either_node_line : List ℕ → Option ScriptLine
 either_node_line bytes = or_else (first_node_line bytes) (second_node_line bytes)
 
+-- a number after a space
+unfoldable pub number_field : List ℕ → Option (Option ℕ × List ℕ)
+number_field bytes = do
+  rest ← after (codes " ") bytes
+  number_at rest
+
+-- what the bytes after a word tell
+abbrev pub chosen : Bool → Option (List ℕ) → Option (Bool × List ℕ)
+chosen holds None = None
+chosen holds (Some rest) = Some (holds, rest)
+
+-- one of two words: the first where it holds
+unfoldable pub choice_at : List ℕ → List ℕ → List ℕ → Option (Bool × List ℕ)
+choice_at one other bytes = or_else (chosen true (after one bytes)) (chosen false (after other bytes))
+
+-- one of two words after a space
+unfoldable pub choice_field : List ℕ → List ℕ → List ℕ → Option (Bool × List ℕ)
+choice_field one other bytes = do
+  rest ← after (codes " ") bytes
+  choice_at one other rest
+
+abbrev pub order_field : List ℕ → Option (Bool × List ℕ)
+order_field bytes = choice_field (codes "pri") (codes "fifo") bytes
+
+abbrev pub waiters_field : List ℕ → Option (Bool × List ℕ)
+waiters_field bytes = choice_field (codes "many") (codes "one") bytes
+
+abbrev pub clearing_field : List ℕ → Option (Bool × List ℕ)
+clearing_field bytes = choice_field (codes "clr") (codes "keep") bytes
+
+abbrev pub start_field : List ℕ → Option (Bool × List ℕ)
+start_field bytes = choice_field (codes "act") (codes "dor") bytes
+
 -- sem ID fifo INIT MAX
 unfoldable pub sem_line : List ℕ → Option ScriptLine
 sem_line bytes = do
-  rest ← after (codes " ") bytes
-  id ← number_at rest
-  rest ← after (codes " fifo ") id.1
-  init ← number_at rest
-  rest ← after (codes " ") init.1
-  max ← number_at rest
-  at_end max.1 (Sem id.0 init.0 max.0)
+  id ← number_field bytes
+  pri ← order_field id.1
+  init ← number_field pri.1
+  max ← number_field init.1
+  at_end max.1 (Sem id.0 pri.0 init.0 max.0)
+
+-- flg ID fifo one clr INIT
+unfoldable pub flg_line : List ℕ → Option ScriptLine
+flg_line bytes = do
+  id ← number_field bytes
+  pri ← order_field id.1
+  many ← waiters_field pri.1
+  clr ← clearing_field many.1
+  init ← number_field clr.1
+  at_end init.1 (Flg id.0 pri.0 many.0 clr.0 init.0)
+
+-- dtq ID fifo CAP
+unfoldable pub dtq_line : List ℕ → Option ScriptLine
+dtq_line bytes = do
+  id ← number_field bytes
+  pri ← order_field id.1
+  cap ← number_field pri.1
+  at_end cap.1 (Dtq id.0 pri.0 cap.0)
 
 -- task ID PRI act
 unfoldable pub task_line : List ℕ → Option ScriptLine
 task_line bytes = do
-  rest ← after (codes " ") bytes
-  id ← number_at rest
-  rest ← after (codes " ") id.1
-  pri ← number_at rest
-  rest ← after (codes " act") pri.1
-  at_end rest (Task id.0 pri.0)
+  id ← number_field bytes
+  pri ← number_field id.1
+  act ← start_field pri.1
+  at_end act.1 (Task id.0 pri.0 act.0)
 
 -- end
 abbrev pub end_line : List ℕ → Option ScriptLine
@@ -107,7 +154,7 @@ Kinds = List (List ℕ × (List ℕ → Option ScriptLine))
 abbrev pub kinds : Kinds
 kinds =
     (codes "itron", itron_line) ∷ (codes "link", link_line) ∷ (codes "ticks", ticks_line) ∷ (codes "node", either_node_line)
-    ∷ (codes "sem", sem_line) ∷ (codes "task", task_line) ∷ (codes "end", end_line) ∷ []
+    ∷ (codes "sem", sem_line) ∷ (codes "flg", flg_line) ∷ (codes "dtq", dtq_line) ∷ (codes "task", task_line) ∷ (codes "end", end_line) ∷ []
 
 -- the first kind with this word reads the bytes after it
 abbrev pub by_word : Kinds → List ℕ → List ℕ → Option ScriptLine

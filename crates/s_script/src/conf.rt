@@ -1,7 +1,7 @@
 ghost use Rattle.std.specs.Prelude.{◌≡◌, IfOk};
-ghost use Rattle.spec_script.specs.Configuration.{declared_tasks, declared_semaphores, node_conf, conf_of};
+ghost use Rattle.spec_script.specs.Configuration.{declared_tasks, declared_semaphores, declared_flags, declared_queues, node_conf, conf_of};
 
-use it_types::{Conf, List, NoMemory, NodeConf, SemDecl, TaskDecl};
+use it_types::{Conf, DtqDecl, FlgDecl, List, NoMemory, NodeConf, SemDecl, TaskDecl};
 use spec_script::{Decl, NodeDecl, Script};
 use std::alloc::Global;
 
@@ -29,6 +29,30 @@ fn declared_semaphores(alloc: Global, decls: &[Decl]) -> Result<List<SemDecl>, N
     Ok(list)
 }
 
+fn declared_flags(alloc: Global, decls: &[Decl]) -> Result<List<FlgDecl>, NoMemory>
+    ensures { IfOk result (λ list. list ≡ declared_flags decls.now) }
+{
+    let mut list = List::new(alloc);
+    for decl in decls {
+        if let Decl::Flg(flag) = decl {
+            list.push(*flag)?;
+        }
+    }
+    Ok(list)
+}
+
+fn declared_queues(alloc: Global, decls: &[Decl]) -> Result<List<DtqDecl>, NoMemory>
+    ensures { IfOk result (λ list. list ≡ declared_queues decls.now) }
+{
+    let mut list = List::new(alloc);
+    for decl in decls {
+        if let Decl::Dtq(queue) = decl {
+            list.push(*queue)?;
+        }
+    }
+    Ok(list)
+}
+
 fn node_conf(alloc: Global, node: &NodeDecl) -> Result<NodeConf, NoMemory>
     ensures { IfOk result (λ conf. conf ≡ node_conf node.now) }
 {
@@ -38,8 +62,8 @@ fn node_conf(alloc: Global, node: &NodeDecl) -> Result<NodeConf, NoMemory>
         top0: node.top0,
         tasks: declared_tasks(alloc, node.decls.as_slice())?,
         sems: declared_semaphores(alloc, node.decls.as_slice())?,
-        flags: List::new(alloc),
-        dtqs: List::new(alloc),
+        flags: declared_flags(alloc, node.decls.as_slice())?,
+        dtqs: declared_queues(alloc, node.decls.as_slice())?,
         cycs: List::new(alloc),
         cbrs: List::new(alloc),
     })

@@ -1,13 +1,15 @@
-ghost use Rattle.std.specs.Prelude.{◌≡◌, true, ◌<◌, ◌^◌, OnOk, unwrap_or};
-ghost use Rattle.std.specs.Option.{ForSome};
-ghost use Rattle.std.specs.List.{list_any};
+ghost use Rattle.std.specs.Prelude.{◌≡◌, true, [], OnOk};
 ghost use Rattle.spec_script.specs.Lines.{no_node};
-ghost use Rattle.spec_script.specs.Ranges.{is_node_in_range, is_in_range, is_task, is_semaphore};
-ghost use Rattle.s_script.specs.Drafts.{start, is_last, in_place, has_room, is_declared, cause, node_of, moved};
+ghost use Rattle.spec_script.specs.Ranges.{is_node_in_range, is_in_range};
+ghost use Rattle.s_script.specs.Drafts.{start, is_last, in_place, has_room, is_declared, cause, node_of, with_object, moved};
 
 use crate::Why;
+use crate::declaration::{
+    declares_flag, declares_queue, declares_semaphore, declares_task, flag_of, queue_of,
+    semaphore_of, task_of, to_u32,
+};
 use crate::ranges::is_in_range;
-use it_types::{List, NoMemory, SemDecl, TaskDecl};
+use it_types::{List, NoMemory, TaskDecl};
 use spec_script::{Body, Decl, Line, NodeDecl, NodeLine, ScriptLine};
 use std::alloc::Global;
 use std::mem;
@@ -58,16 +60,6 @@ fn no_node(alloc: Global) -> NodeDecl
     }
 }
 
-fn to_u32(number: Option<u64>) -> u32
-    requires { ForSome number (λ n. n < 2 ^ 32) }
-    ensures { result ≡ unwrap_or number 0 }
-{
-    match number {
-        Some(number) => number as u32,
-        None => 0,
-    }
-}
-
 fn node_of(alloc: Global, line: NodeLine) -> NodeDecl
     requires { is_node_in_range line ≡ true }
     ensures { result ≡ node_of line }
@@ -90,42 +82,14 @@ fn in_place(stage: Stage, last: bool, line: &ScriptLine) -> bool
         (Stage::Linked, ScriptLine::Ticks { .. }) => true,
         (Stage::Timed, ScriptLine::FirstNode(_)) => true,
         (Stage::Declares, ScriptLine::Sem { .. }) => true,
+        (Stage::Declares, ScriptLine::Flg { .. }) => true,
+        (Stage::Declares, ScriptLine::Dtq { .. }) => true,
         (Stage::Declares, ScriptLine::Task { .. }) => true,
         (Stage::Declares, ScriptLine::SecondNode(_)) => !last,
         (Stage::InTask, ScriptLine::Call { .. }) => true,
         (Stage::InTask, ScriptLine::End) => true,
         _ => false,
     }
-}
-
-fn is_task(decl: &Decl, id: u64) -> bool
-    ensures { result ≡ is_task id decl.now }
-{
-    match decl {
-        Decl::Task(task, _) => u64::from(task.id) == id,
-        Decl::Sem(_) => false,
-    }
-}
-
-fn is_semaphore(decl: &Decl, id: u64) -> bool
-    ensures { result ≡ is_semaphore id decl.now }
-{
-    match decl {
-        Decl::Task(..) => false,
-        Decl::Sem(sem) => u64::from(sem.id) == id,
-    }
-}
-
-fn declares_task(decls: &[Decl], id: u64) -> bool
-    ensures { result ≡ list_any (is_task id) decls.now }
-{
-    decls.iter().any(|decl| is_task(decl, id))
-}
-
-fn declares_semaphore(decls: &[Decl], id: u64) -> bool
-    ensures { result ≡ list_any (is_semaphore id) decls.now }
-{
-    decls.iter().any(|decl| is_semaphore(decl, id))
 }
 
 impl Draft {
@@ -166,6 +130,8 @@ impl Draft {
             | ScriptLine::Ticks { .. }
             | ScriptLine::FirstNode(_)
             | ScriptLine::Sem { .. }
+            | ScriptLine::Flg { .. }
+            | ScriptLine::Dtq { .. }
             | ScriptLine::Task { .. }
             | ScriptLine::End => true,
         }
@@ -174,13 +140,12 @@ impl Draft {
     fn is_declared(&self, line: &ScriptLine) -> bool
         ensures { result ≡ is_declared self.now line.now }
     {
+        let decls = self.node.decls.as_slice();
         match line {
-            ScriptLine::Task { id, .. } => {
-                declares_task(self.node.decls.as_slice(), id.unwrap_or(0))
-            }
-            ScriptLine::Sem { id, .. } => {
-                declares_semaphore(self.node.decls.as_slice(), id.unwrap_or(0))
-            }
+            ScriptLine::Sem { id, .. } => declares_semaphore(decls, id.unwrap_or(0)),
+            ScriptLine::Flg { id, .. } => declares_flag(decls, id.unwrap_or(0)),
+            ScriptLine::Dtq { id, .. } => declares_queue(decls, id.unwrap_or(0)),
+            ScriptLine::Task { id, .. } => declares_task(decls, id.unwrap_or(0)),
             ScriptLine::Itron
             | ScriptLine::Link { .. }
             | ScriptLine::Ticks { .. }
@@ -204,6 +169,39 @@ impl Draft {
         } else {
             None
         }
+    }
+
+    fn begin_first(&mut self, alloc: Global, line: NodeLine)
+        requires { is_node_in_range line ≡ true }
+        ensures { self.new ≡ moved self.old (ScriptLine.FirstNode line) }
+    {
+        self.stage = Stage::Declares;
+        self.first = None;
+        self.node = node_of(alloc, line);
+    }
+
+    fn begin_second(&mut self, alloc: Global, line: NodeLine)
+        requires { is_node_in_range line ≡ true }
+        ensures { self.new ≡ moved self.old (ScriptLine.SecondNode line) }
+    {
+        self.stage = Stage::Declares;
+        self.first = Some(mem::replace(&mut self.node, node_of(alloc, line)));
+    }
+
+    fn open_task(&mut self, alloc: Global, task: TaskDecl)
+        ensures { self.new ≡ record self.old { stage = Stage.InTask; task = task; body = [] } }
+    {
+        self.stage = Stage::InTask;
+        self.task = task;
+        self.body = List::new(alloc);
+    }
+
+    fn add_object(&mut self, decl: Decl) -> Result<(), NoMemory>
+        ensures { OnOk result (self.new ≡ with_object self.old decl) }
+    {
+        self.node.decls.push(decl)?;
+        self.stage = Stage::Declares;
+        Ok(())
     }
 
     fn close_task(&mut self, alloc: Global) -> Result<(), NoMemory>
@@ -230,34 +228,24 @@ impl Draft {
                 self.stage = Stage::Timed;
                 self.ticks = to_u32(ticks);
             }
-            ScriptLine::FirstNode(node) => {
-                self.stage = Stage::Declares;
-                self.first = None;
-                self.node = node_of(alloc, node);
+            ScriptLine::FirstNode(node) => self.begin_first(alloc, node),
+            ScriptLine::SecondNode(node) => self.begin_second(alloc, node),
+            ScriptLine::Sem { id, pri, init, max } => {
+                self.add_object(Decl::Sem(semaphore_of(id, pri, init, max)))?;
             }
-            ScriptLine::SecondNode(node) => {
-                self.stage = Stage::Declares;
-                self.first = Some(mem::replace(&mut self.node, node_of(alloc, node)));
+            ScriptLine::Flg {
+                id,
+                pri,
+                many,
+                clr,
+                init,
+            } => {
+                self.add_object(Decl::Flg(flag_of(id, pri, many, clr, init)))?;
             }
-            ScriptLine::Sem { id, init, max } => {
-                let sem = SemDecl {
-                    id: to_u32(id),
-                    pri: false,
-                    init: to_u32(init),
-                    max: to_u32(max),
-                };
-                self.stage = Stage::Declares;
-                self.node.decls.push(Decl::Sem(sem))?;
+            ScriptLine::Dtq { id, pri, cap } => {
+                self.add_object(Decl::Dtq(queue_of(id, pri, cap)))?;
             }
-            ScriptLine::Task { id, pri } => {
-                self.stage = Stage::InTask;
-                self.task = TaskDecl {
-                    id: to_u32(id),
-                    pri: to_u32(pri),
-                    act: true,
-                };
-                self.body = List::new(alloc);
-            }
+            ScriptLine::Task { id, pri, act } => self.open_task(alloc, task_of(id, pri, act)),
             ScriptLine::Call { req, fits: _ } => {
                 self.stage = Stage::InTask;
                 self.body.push(Line::Call { req })?;

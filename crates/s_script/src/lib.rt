@@ -2,6 +2,7 @@
 #![tactic(auto)]
 
 mod conf;
+mod declaration;
 mod draft;
 mod line;
 mod lines;

@@ -1,6 +1,6 @@
 ghost use Rattle.std.specs.Prelude.{◌≡◌, IfOk};
 ghost use Rattle.it_types.specs.Cursor.{Gives};
-ghost use Rattle.s_script.specs.LineKinds.{itron_line, link_line, ticks_line, node_at, first_node_line, second_node_line, either_node_line, sem_line, task_line, end_line, kinds, by_word, call_line, line_of};
+ghost use Rattle.s_script.specs.LineKinds.{itron_line, link_line, ticks_line, node_at, first_node_line, second_node_line, either_node_line, number_field, choice_at, choice_field, order_field, sem_line, flg_line, dtq_line, task_line, end_line, kinds, by_word, call_line, line_of};
 
 use it_types::NoMemory;
 use it_types::cursor::{after, at_end, is_word, split_word};
@@ -79,29 +79,89 @@ fn either_node_line(bytes: &[u8]) -> Option<ScriptLine>
     }
 }
 
+#[tactic(auto, unfolding(it_types::specs::Cursor::and_then, crate::specs::LineKinds::number_field))]
+fn number_field(bytes: &[u8]) -> Option<(Option<u64>, &[u8])>
+    ensures { Gives (λ x. (x.0, x.1.now)) result (number_field bytes.now) }
+{
+    number_at(after(b" ", bytes)?)
+}
+
+#[tactic(auto, unfolding(crate::specs::LineKinds::choice_at))]
+fn choice_at<'a>(one: &[u8], other: &[u8], bytes: &'a [u8]) -> Option<(bool, &'a [u8])>
+    ensures { Gives (λ x. (x.0, x.1.now)) result (choice_at one.now other.now bytes.now) }
+{
+    if let Some(rest) = after(one, bytes) {
+        Some((true, rest))
+    } else {
+        let rest = after(other, bytes)?;
+        Some((false, rest))
+    }
+}
+
+/// Whether the first of two words stands after the space at the front, or the other, and the bytes after it.
+#[tactic(auto, unfolding(it_types::specs::Cursor::and_then, crate::specs::LineKinds::choice_field))]
+fn choice_field<'a>(one: &[u8], other: &[u8], bytes: &'a [u8]) -> Option<(bool, &'a [u8])>
+    ensures { Gives (λ x. (x.0, x.1.now)) result (choice_field one.now other.now bytes.now) }
+{
+    choice_at(one, other, after(b" ", bytes)?)
+}
+
+fn order_field(bytes: &[u8]) -> Option<(bool, &[u8])>
+    ensures { Gives (λ x. (x.0, x.1.now)) result (order_field bytes.now) }
+{
+    choice_field(b"pri", b"fifo", bytes)
+}
+
 #[tactic(auto, unfolding(it_types::specs::Cursor::and_then, crate::specs::LineKinds::sem_line))]
 fn sem_line(bytes: &[u8]) -> Option<ScriptLine>
     ensures { result ≡ sem_line bytes.now }
 {
-    let rest = after(b" ", bytes)?;
-    let (id, rest) = number_at(rest)?;
-    let rest = after(b" fifo ", rest)?;
-    let (init, rest) = number_at(rest)?;
-    let rest = after(b" ", rest)?;
-    let (max, rest) = number_at(rest)?;
-    at_end(rest, ScriptLine::Sem { id, init, max })
+    let (id, rest) = number_field(bytes)?;
+    let (pri, rest) = order_field(rest)?;
+    let (init, rest) = number_field(rest)?;
+    let (max, rest) = number_field(rest)?;
+    at_end(rest, ScriptLine::Sem { id, pri, init, max })
+}
+
+#[tactic(auto, unfolding(it_types::specs::Cursor::and_then, crate::specs::LineKinds::flg_line))]
+fn flg_line(bytes: &[u8]) -> Option<ScriptLine>
+    ensures { result ≡ flg_line bytes.now }
+{
+    let (id, rest) = number_field(bytes)?;
+    let (pri, rest) = order_field(rest)?;
+    let (many, rest) = choice_field(b"many", b"one", rest)?;
+    let (clr, rest) = choice_field(b"clr", b"keep", rest)?;
+    let (init, rest) = number_field(rest)?;
+    at_end(
+        rest,
+        ScriptLine::Flg {
+            id,
+            pri,
+            many,
+            clr,
+            init,
+        },
+    )
+}
+
+#[tactic(auto, unfolding(it_types::specs::Cursor::and_then, crate::specs::LineKinds::dtq_line))]
+fn dtq_line(bytes: &[u8]) -> Option<ScriptLine>
+    ensures { result ≡ dtq_line bytes.now }
+{
+    let (id, rest) = number_field(bytes)?;
+    let (pri, rest) = order_field(rest)?;
+    let (cap, rest) = number_field(rest)?;
+    at_end(rest, ScriptLine::Dtq { id, pri, cap })
 }
 
 #[tactic(auto, unfolding(it_types::specs::Cursor::and_then, crate::specs::LineKinds::task_line))]
 fn task_line(bytes: &[u8]) -> Option<ScriptLine>
     ensures { result ≡ task_line bytes.now }
 {
-    let rest = after(b" ", bytes)?;
-    let (id, rest) = number_at(rest)?;
-    let rest = after(b" ", rest)?;
-    let (pri, rest) = number_at(rest)?;
-    let rest = after(b" act", rest)?;
-    at_end(rest, ScriptLine::Task { id, pri })
+    let (id, rest) = number_field(bytes)?;
+    let (pri, rest) = number_field(rest)?;
+    let (act, rest) = choice_field(b"act", b"dor", rest)?;
+    at_end(rest, ScriptLine::Task { id, pri, act })
 }
 
 /// The line that begins with the word and goes on with the bytes, where it is no call.
@@ -118,6 +178,10 @@ fn other_line(word: &[u8], bytes: &[u8]) -> Option<ScriptLine>
         either_node_line(bytes)
     } else if is_word(word, b"sem") {
         sem_line(bytes)
+    } else if is_word(word, b"flg") {
+        flg_line(bytes)
+    } else if is_word(word, b"dtq") {
+        dtq_line(bytes)
     } else if is_word(word, b"task") {
         task_line(bytes)
     } else if is_word(word, b"end") {

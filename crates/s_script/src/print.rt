@@ -1,9 +1,9 @@
 ghost use Rattle.std.specs.Prelude.{◌≡◌, [], ◌∷◌, ◌++◌, OnOk, OnErr, map};
 ghost use Rattle.std.specs.List.{flat_map};
-ghost use Rattle.spec_script.specs.Lines.{ended, spelled, node_text, body_line, declaration_lines, first_node, second_node, head_lines, node_line, script_text};
+ghost use Rattle.spec_script.specs.Lines.{choice_text, order_text, field, ended, spelled, node_text, body_line, declaration_lines, first_node, second_node, head_lines, node_line, script_text};
 
 use it_types::words::{put_address, put_number, put_numbered, put_word};
-use it_types::{NoMemory, SemDecl, TaskDecl, spell_into};
+use it_types::{DtqDecl, FlgDecl, NoMemory, SemDecl, TaskDecl, spell_into};
 use spec_script::{Body, Decl, Line, NodeDecl, Script, ScriptLine};
 use std::alloc::Global;
 
@@ -46,21 +46,56 @@ fn put_second_node(out: &mut Vec<u8>, node: &NodeDecl) -> Result<(), NoMemory>
     put_node(out, node)
 }
 
+fn put_choice(out: &mut Vec<u8>, one: &[u8], other: &[u8], holds: bool) -> Result<(), NoMemory>
+    ensures { OnOk result (out.new.items ≡ out.old.items ++ field (choice_text one.now other.now holds)) }
+{
+    put_word(out, b" ")?;
+    put_word(out, if holds { one } else { other })
+}
+
+fn put_order(out: &mut Vec<u8>, pri: bool) -> Result<(), NoMemory>
+    ensures { OnOk result (out.new.items ≡ out.old.items ++ field (order_text pri)) }
+{
+    put_choice(out, b"pri", b"fifo", pri)
+}
+
 fn put_sem(out: &mut Vec<u8>, sem: SemDecl) -> Result<(), NoMemory>
-    ensures { OnOk result (out.new.items ≡ out.old.items ++ spelled (ScriptLine.Sem (Some sem.id) (Some sem.init) (Some sem.max))) }
+    ensures { OnOk result (out.new.items ≡ out.old.items ++ spelled (ScriptLine.Sem (Some sem.id) sem.pri (Some sem.init) (Some sem.max))) }
 {
     put_numbered(out, b"sem ", sem.id)?;
-    put_numbered(out, b" fifo ", sem.init)?;
+    put_order(out, sem.pri)?;
+    put_numbered(out, b" ", sem.init)?;
     put_numbered(out, b" ", sem.max)?;
     put_word(out, b"\n")
 }
 
+fn put_flag(out: &mut Vec<u8>, flag: FlgDecl) -> Result<(), NoMemory>
+    ensures { OnOk result (out.new.items ≡ out.old.items ++ spelled (ScriptLine.Flg (Some flag.id) flag.pri flag.many flag.clr (Some flag.init))) }
+{
+    put_numbered(out, b"flg ", flag.id)?;
+    put_order(out, flag.pri)?;
+    put_choice(out, b"many", b"one", flag.many)?;
+    put_choice(out, b"clr", b"keep", flag.clr)?;
+    put_numbered(out, b" ", flag.init)?;
+    put_word(out, b"\n")
+}
+
+fn put_queue(out: &mut Vec<u8>, queue: DtqDecl) -> Result<(), NoMemory>
+    ensures { OnOk result (out.new.items ≡ out.old.items ++ spelled (ScriptLine.Dtq (Some queue.id) queue.pri (Some queue.cap))) }
+{
+    put_numbered(out, b"dtq ", queue.id)?;
+    put_order(out, queue.pri)?;
+    put_numbered(out, b" ", queue.cap)?;
+    put_word(out, b"\n")
+}
+
 fn put_task(out: &mut Vec<u8>, task: TaskDecl) -> Result<(), NoMemory>
-    ensures { OnOk result (out.new.items ≡ out.old.items ++ spelled (ScriptLine.Task (Some task.id) (Some task.pri))) }
+    ensures { OnOk result (out.new.items ≡ out.old.items ++ spelled (ScriptLine.Task (Some task.id) (Some task.pri) task.act)) }
 {
     put_numbered(out, b"task ", task.id)?;
     put_numbered(out, b" ", task.pri)?;
-    put_word(out, b" act\n")
+    put_choice(out, b"act", b"dor", task.act)?;
+    put_word(out, b"\n")
 }
 
 fn put_body_line(alloc: Global, out: &mut Vec<u8>, line: &Line) -> Result<(), NoMemory>
@@ -91,6 +126,8 @@ fn put_declaration(alloc: Global, out: &mut Vec<u8>, decl: &Decl) -> Result<(), 
             put_word(out, b"end\n")
         }
         Decl::Sem(sem) => put_sem(out, *sem),
+        Decl::Flg(flag) => put_flag(out, *flag),
+        Decl::Dtq(queue) => put_queue(out, *queue),
     }
 }
 

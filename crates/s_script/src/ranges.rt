@@ -3,13 +3,17 @@ ghost use Rattle.spec_script.specs.Ranges.{within, is_at_most, is_node_in_range,
 
 use spec_script::{NodeLine, ScriptLine};
 
-/// The greatest id of a task or a semaphore, and the least urgent priority of a task.
+/// The greatest id of a task or an object.
 const MAX_ID: u64 = 16;
 
+/// The least urgent priority of a task.
 const MAX_PRIORITY: u64 = 16;
 
 /// The greatest maximum of a semaphore.
 const MAX_COUNT: u64 = 65535;
+
+/// The greatest capacity of a data queue.
+const MAX_CAPACITY: u64 = 1024;
 
 /// The greatest number of ticks of a script.
 const MAX_TICKS: u64 = 400000;
@@ -56,11 +60,18 @@ pub fn is_in_range(line: &ScriptLine) -> bool
         ScriptLine::Link { key } => is_within(0, *key, u64::MAX),
         ScriptLine::Ticks { ticks } => is_within(0, *ticks, MAX_TICKS),
         ScriptLine::FirstNode(node) | ScriptLine::SecondNode(node) => is_node_in_range(*node),
-        ScriptLine::Sem { id, init, max } => {
+        ScriptLine::Sem { id, init, max, .. } => {
             is_within(1, *id, MAX_ID) && is_at_most(*init, *max) && is_within(1, *max, MAX_COUNT)
         }
-        ScriptLine::Task { id, pri } => is_within(1, *id, MAX_ID)
-            && is_within(1, *pri, MAX_PRIORITY),
+        ScriptLine::Flg { id, init, .. } => {
+            is_within(1, *id, MAX_ID) && is_within(0, *init, MAX_U32)
+        }
+        ScriptLine::Dtq { id, cap, .. } => {
+            is_within(1, *id, MAX_ID) && is_within(0, *cap, MAX_CAPACITY)
+        }
+        ScriptLine::Task { id, pri, .. } => {
+            is_within(1, *id, MAX_ID) && is_within(1, *pri, MAX_PRIORITY)
+        }
         ScriptLine::Call { fits, .. } => *fits,
         ScriptLine::Itron | ScriptLine::End => true,
     }

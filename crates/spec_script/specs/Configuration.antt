@@ -2,6 +2,8 @@
 use Rattle.std.specs.Prelude.{List, [], ◌∷◌}
 use Rattle.it_types.specs.declared.conf.TaskDecl.{TaskDecl}
 use Rattle.it_types.specs.declared.conf.SemDecl.{SemDecl}
+use Rattle.it_types.specs.declared.conf.FlgDecl.{FlgDecl}
+use Rattle.it_types.specs.declared.conf.DtqDecl.{DtqDecl}
 use Rattle.it_types.specs.declared.node_conf.NodeConf.{NodeConf}
 use Rattle.it_types.specs.declared.node_conf.Conf.{Conf}
 use Rattle.spec_script.specs.declared.script.Script.{Script}
@@ -14,16 +16,27 @@ use Rattle.spec_script.specs.Lines.{first_node, second_node}
 abbrev pub declared_tasks : List Decl → List TaskDecl
 declared_tasks [] = []
 declared_tasks (declarations.Task task body ∷ ds) = task ∷ declared_tasks ds
-declared_tasks (declarations.Sem sem ∷ ds) = declared_tasks ds
+declared_tasks (_ ∷ ds) = declared_tasks ds
 
 -- the semaphores, in the order of their declarations
 abbrev pub declared_semaphores : List Decl → List SemDecl
 declared_semaphores [] = []
-declared_semaphores (declarations.Task task body ∷ ds) = declared_semaphores ds
 declared_semaphores (declarations.Sem sem ∷ ds) = sem ∷ declared_semaphores ds
+declared_semaphores (_ ∷ ds) = declared_semaphores ds
 
--- what a node with these declarations begins with; event flags, data queues, cyclic handlers and callback routines can't be
--- declared today
+-- the event flags, in the order of their declarations
+abbrev pub declared_flags : List Decl → List FlgDecl
+declared_flags [] = []
+declared_flags (declarations.Flg flag ∷ ds) = flag ∷ declared_flags ds
+declared_flags (_ ∷ ds) = declared_flags ds
+
+-- the data queues, in the order of their declarations
+abbrev pub declared_queues : List Decl → List DtqDecl
+declared_queues [] = []
+declared_queues (declarations.Dtq queue ∷ ds) = queue ∷ declared_queues ds
+declared_queues (_ ∷ ds) = declared_queues ds
+
+-- what a node with these declarations begins with; cyclic handlers and callback routines can't be declared
 abbrev pub node_conf : NodeDecl → NodeConf
 node_conf n = record {
   addr = n.addr;
@@ -31,8 +44,8 @@ node_conf n = record {
   top0 = n.top0;
   tasks = declared_tasks n.decls;
   sems = declared_semaphores n.decls;
-  flags = [];
-  dtqs = [];
+  flags = declared_flags n.decls;
+  dtqs = declared_queues n.decls;
   cycs = [];
   cbrs = [];
 }

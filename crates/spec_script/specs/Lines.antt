@@ -1,5 +1,5 @@
 -- The lines of a script and their text, which are this project's own.
-use Rattle.std.specs.Prelude.{ℕ, true, List, [], ◌∷◌, ◌++◌, Option, Some, unwrap_or, slice_index, slice_index_or, codes, decimal, map}
+use Rattle.std.specs.Prelude.{ℕ, Bool, true, false, List, [], ◌∷◌, ◌++◌, Option, Some, unwrap_or, slice_index, slice_index_or, codes, decimal, map}
 use Rattle.std.specs.List.{flat_map}
 use Rattle.it_types.specs.Address.{address_text}
 use Rattle.it_types.specs.Lines.{request_text}
@@ -10,13 +10,38 @@ use Rattle.spec_script.specs.declared.decl.Decl.TheVariants as declarations
 use Rattle.spec_script.specs.declared.decl.Line.{Line}
 use Rattle.spec_script.specs.declared.decl.Line.TheVariants as body_lines
 use Rattle.spec_script.specs.declared.script_line.ScriptLine.{ScriptLine}
-use Rattle.spec_script.specs.declared.script_line.ScriptLine.TheVariants.{Itron, Link, Ticks, FirstNode, SecondNode, Sem, Task, Call, End}
+use Rattle.spec_script.specs.declared.script_line.ScriptLine.TheVariants.{Itron, Link, Ticks, FirstNode, SecondNode, Sem, Flg, Dtq, Task, Call, End}
 use Rattle.spec_script.specs.declared.script_line.NodeLine.{NodeLine}
 
 -- ---- the text of a line, without its LF
 
 abbrev pub number_text : Option ℕ → List ℕ
 number_text number = decimal (unwrap_or number 0)
+
+-- one of two words: the first where it holds
+abbrev pub choice_text : List ℕ → List ℕ → Bool → List ℕ
+choice_text one other true = one
+choice_text one other false = other
+
+-- whether tasks wait by their priorities, or by arrival
+abbrev pub order_text : Bool → List ℕ
+order_text pri = choice_text (codes "pri") (codes "fifo") pri
+
+-- whether many tasks may wait, or one at a time
+abbrev pub waiters_text : Bool → List ℕ
+waiters_text many = choice_text (codes "many") (codes "one") many
+
+-- whether the end of a wait clears the flag, or keeps it
+abbrev pub clearing_text : Bool → List ℕ
+clearing_text clr = choice_text (codes "clr") (codes "keep") clr
+
+-- whether a task is active from the start, or dormant
+abbrev pub start_text : Bool → List ℕ
+start_text act = choice_text (codes "act") (codes "dor") act
+
+-- a field stands after a space
+abbrev pub field : List ℕ → List ℕ
+field text = codes " " ++ text
 
 abbrev pub node_text : NodeLine → List ℕ
 node_text n = address_text (unwrap_or n.addr 0) ++ (codes " " ++ (number_text n.isn0 ++ (codes " " ++ number_text n.top0)))
@@ -27,8 +52,11 @@ line_text (Link key) = codes "link " ++ (number_text key ++ codes " 0 0 0")
 line_text (Ticks ticks) = codes "ticks " ++ number_text ticks
 line_text (FirstNode n) = codes "node 0 " ++ node_text n
 line_text (SecondNode n) = codes "node 1 " ++ node_text n
-line_text (Sem id init max) = codes "sem " ++ (number_text id ++ (codes " fifo " ++ (number_text init ++ (codes " " ++ number_text max))))
-line_text (Task id pri) = codes "task " ++ (number_text id ++ (codes " " ++ (number_text pri ++ codes " act")))
+line_text (Sem id pri init max) = codes "sem" ++ (field (number_text id) ++ (field (order_text pri) ++ (field (number_text init) ++ field (number_text max))))
+line_text (Flg id pri many clr init) =
+    codes "flg" ++ (field (number_text id) ++ (field (order_text pri) ++ (field (waiters_text many) ++ (field (clearing_text clr) ++ field (number_text init)))))
+line_text (Dtq id pri cap) = codes "dtq" ++ (field (number_text id) ++ (field (order_text pri) ++ field (number_text cap)))
+line_text (Task id pri act) = codes "task" ++ (field (number_text id) ++ (field (number_text pri) ++ field (start_text act)))
 line_text (Call request fits) = request_text request
 line_text End = codes "end"
 
@@ -60,8 +88,10 @@ abbrev pub body_line : Line → ScriptLine
 body_line (body_lines.Call request) = Call request true
 
 abbrev pub declaration_lines : Decl → List ScriptLine
-declaration_lines (declarations.Task task body) = Task (Some task.id) (Some task.pri) ∷ (map body_line body.lines ++ End ∷ [])
-declaration_lines (declarations.Sem sem) = Sem (Some sem.id) (Some sem.init) (Some sem.max) ∷ []
+declaration_lines (declarations.Task task body) = Task (Some task.id) (Some task.pri) task.act ∷ (map body_line body.lines ++ End ∷ [])
+declaration_lines (declarations.Sem sem) = Sem (Some sem.id) sem.pri (Some sem.init) (Some sem.max) ∷ []
+declaration_lines (declarations.Flg flag) = Flg (Some flag.id) flag.pri flag.many flag.clr (Some flag.init) ∷ []
+declaration_lines (declarations.Dtq queue) = Dtq (Some queue.id) queue.pri (Some queue.cap) ∷ []
 
 -- the lines before the declarations of node 0
 abbrev pub head_lines : Script → List ScriptLine

@@ -10,7 +10,7 @@ use Rattle.spec_script.specs.declared.decl.Decl.TheVariants as declarations
 use Rattle.spec_script.specs.declared.decl.Line.{Line}
 use Rattle.spec_script.specs.declared.decl.Line.TheVariants as body_lines
 use Rattle.spec_script.specs.declared.script_line.ScriptLine.{ScriptLine}
-use Rattle.spec_script.specs.declared.script_line.ScriptLine.TheVariants.{Itron, Link, Ticks, FirstNode, SecondNode, Sem, Task, Call, End}
+use Rattle.spec_script.specs.declared.script_line.ScriptLine.TheVariants.{Itron, Link, Ticks, FirstNode, SecondNode, Sem, Flg, Dtq, Task, Call, End}
 use Rattle.spec_script.specs.declared.script_line.NodeLine.{NodeLine}
 use Rattle.spec_script.specs.Today.{may_write}
 use Rattle.spec_script.specs.Lines.{first_node, second_node, key_of, lines_of}
@@ -34,8 +34,10 @@ is_in_range (Link key) = within 0 key 18446744073709551615
 is_in_range (Ticks ticks) = within 0 ticks 400000
 is_in_range (FirstNode n) = is_node_in_range n
 is_in_range (SecondNode n) = is_node_in_range n
-is_in_range (Sem id init max) = within 1 id 16 && (is_at_most init max && within 1 max 65535)
-is_in_range (Task id pri) = within 1 id 16 && within 1 pri 16
+is_in_range (Sem id pri init max) = within 1 id 16 && (is_at_most init max && within 1 max 65535)
+is_in_range (Flg id pri many clr init) = within 1 id 16 && within 0 init 4294967295
+is_in_range (Dtq id pri cap) = within 1 id 16 && within 0 cap 1024
+is_in_range (Task id pri act) = within 1 id 16 && within 1 pri 16
 is_in_range (Call request fits) = fits
 is_in_range Itron = true
 is_in_range End = true
@@ -46,16 +48,26 @@ body_limit = 1000
 
 abbrev pub is_task : ℕ → Decl → Bool
 is_task id (declarations.Task task body) = task.id == id
-is_task id (declarations.Sem sem) = false
+is_task id _ = false
 
 abbrev pub is_semaphore : ℕ → Decl → Bool
-is_semaphore id (declarations.Task task body) = false
 is_semaphore id (declarations.Sem sem) = sem.id == id
+is_semaphore id _ = false
+
+abbrev pub is_flag : ℕ → Decl → Bool
+is_flag id (declarations.Flg flag) = flag.id == id
+is_flag id _ = false
+
+abbrev pub is_queue : ℕ → Decl → Bool
+is_queue id (declarations.Dtq queue) = queue.id == id
+is_queue id _ = false
 
 -- the id of this declaration's kind stands among those before
 abbrev pub is_repeated : List Decl → Decl → Bool
 is_repeated before (declarations.Task task body) = list_any (is_task task.id) before
 is_repeated before (declarations.Sem sem) = list_any (is_semaphore sem.id) before
+is_repeated before (declarations.Flg flag) = list_any (is_flag flag.id) before
+is_repeated before (declarations.Dtq queue) = list_any (is_queue queue.id) before
 
 -- the most bytes of data of a call
 abbrev pub data_limit : ℕ
@@ -68,11 +80,10 @@ is_written_call request = may_write request && is_writable data_limit request
 abbrev pub is_written_line : Line → Bool
 is_written_line (body_lines.Call request) = is_written_call request
 
--- a declaration that can be written: a task that begins at the start, with a body that isn't too long; a semaphore on
--- which tasks wait by arrival
+-- a declaration that can be written: the body of a task isn't too long
 abbrev pub is_written_declaration : Decl → Bool
-is_written_declaration (declarations.Task task body) = task.act && (nat_le (length body.lines) body_limit && list_all is_written_line body.lines)
-is_written_declaration (declarations.Sem sem) = not sem.pri
+is_written_declaration (declarations.Task task body) = nat_le (length body.lines) body_limit && list_all is_written_line body.lines
+is_written_declaration _ = true
 
 -- each id of a kind is declared once
 abbrev pub are_distinct : List Decl → List Decl → Bool

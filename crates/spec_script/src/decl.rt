@@ -1,10 +1,12 @@
-use it_types::{List, Req, SemDecl, TaskDecl};
+use it_types::{DtqDecl, FlgDecl, List, Req, SemDecl, TaskDecl};
 
 /// A declaration of a node.
 #[derive(Debug, Drop)]
 pub enum Decl {
     Task(TaskDecl, Body),
     Sem(SemDecl),
+    Flg(FlgDecl),
+    Dtq(DtqDecl),
 }
 
 /// What a task does, line by line.

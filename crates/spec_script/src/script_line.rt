@@ -17,16 +17,32 @@ pub enum ScriptLine {
     FirstNode(NodeLine),
     /// `node 1 ADDR ISN TOP`
     SecondNode(NodeLine),
-    /// `sem ID fifo INIT MAX`
+    /// `sem ID fifo INIT MAX`, or with `pri` for `fifo`
     Sem {
         id: Option<u64>,
+        pri: bool,
         init: Option<u64>,
         max: Option<u64>,
     },
-    /// `task ID PRI act`
+    /// `flg ID fifo one clr INIT`, or with `pri`, `many` and `keep`
+    Flg {
+        id: Option<u64>,
+        pri: bool,
+        many: bool,
+        clr: bool,
+        init: Option<u64>,
+    },
+    /// `dtq ID fifo CAP`, or with `pri`
+    Dtq {
+        id: Option<u64>,
+        pri: bool,
+        cap: Option<u64>,
+    },
+    /// `task ID PRI act`, or with `dor`
     Task {
         id: Option<u64>,
         pri: Option<u64>,
+        act: bool,
     },
     /// A call of a body; `fits` says that each of its numbers is in its range.
     Call {

@@ -1,36 +1,29 @@
 ghost use Rattle.std.specs.Prelude.{◌≡◌};
-ghost use Rattle.spec_script.specs.Today.{has_written_word, is_untold, may_write};
+ghost use Rattle.spec_script.specs.Today.{is_among, may_write};
 
 use it_types::cursor::is_word;
 use it_types::{Req, Word};
 
-/// The calls that a script may write: those that a part of the stack carries out, but for the end of a task, which comes after
-/// the last line of its body.
-pub const WRITTEN: [Word; 6] = [
-    Word::DlyTsk,
-    Word::SigSem,
-    Word::TwaiSem,
-    Word::UdpCreCep,
-    Word::UdpSndDat,
-    Word::UdpRcvDat,
-];
+/// The kernel calls that a script may not write: no cyclic handler can be declared.
+pub const NOT_WRITTEN: [Word; 2] = [Word::StaCyc, Word::StpCyc];
 
-fn has_written_word(request: &Req) -> bool
-    ensures { result ≡ has_written_word request.now }
+/// The calls of the ITRON TCP/IP API that a script may write.
+pub const WRITTEN: [Word; 3] = [Word::UdpCreCep, Word::UdpSndDat, Word::UdpRcvDat];
+
+fn is_among(words: &[Word], request: &Req) -> bool
+    ensures { result ≡ is_among words.now request.now }
 {
     let text = request.word().text();
-    WRITTEN.iter().any(|word| is_word(word.text(), text))
+    words.iter().any(|word| is_word(word.text(), text))
 }
 
-fn is_untold(request: &Req) -> bool
-    ensures { result ≡ is_untold request.now }
-{
-    request.kernel().is_some() && request.timeout().is_nblk()
-}
-
-/// Whether a script may write the call. A kernel call is never non-blocking there.
+/// Whether a script may write the call.
 pub fn may_write(request: &Req) -> bool
     ensures { result ≡ may_write request.now }
 {
-    has_written_word(request) && !is_untold(request)
+    if request.kernel().is_some() {
+        !is_among(&NOT_WRITTEN, request)
+    } else {
+        is_among(&WRITTEN, request)
+    }
 }

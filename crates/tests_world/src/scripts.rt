@@ -1,4 +1,4 @@
-use it_types::{NoMemory, SemDecl, TaskDecl};
+use it_types::{DtqDecl, FlgDecl, NoMemory, SemDecl, TaskDecl};
 use s_script::{ReadBad, Why, conf_of, print_into, read};
 use std::alloc::Global;
 use std::test::*;
@@ -40,6 +40,63 @@ fn gives_both_nodes_their_declarations(rt: HostRuntime) -> Result<(), Fail> {
     assert_eq!(rt; (second.addr, second.isn0, second.top0), (0x0a000002, 5, 6));
     assert_eq!(rt; second.tasks.as_slice(), [task(1, 3)].as_slice());
     assert_eq!(rt; second.sems.as_slice(), [sem(2, 3)].as_slice());
+    Ok(())
+}
+
+/// Each kind of declaration with each word, and each kernel call that a script may write.
+const KERNEL_SCRIPT: &[u8] =
+    b"itron 1\nlink 1 0 0 0\nticks 10\nnode 0 10.0.0.1 0 0\nflg 1 fifo one clr 4294967295\ndtq 16 pri 1024\ntask 1 1 dor\nact_tsk 1\ncan_act 0\nter_tsk 2\nchg_pri 2 0\nget_pri 0\ntslp_tsk nblk\nwup_tsk 2\ncan_wup 2\nrel_wai 2\nsus_tsk 2\nrsm_tsk 2\nfrsm_tsk 4294967295\ndly_tsk 0\nrot_rdq 16\nget_tid\nsig_sem 1\ntwai_sem 1 nblk\nset_flg 1 1\nclr_flg 1 0\ntwai_flg 1 3 and fevr\ntwai_flg 1 3 or 1000000\ntsnd_dtq 1 4294967295 pol\nfsnd_dtq 1 9\ntrcv_dtq 1 5\nset_tim 9223372036854775807\nget_tim\next_tsk\nget_tid\nend\nflg 16 pri many keep 0\nsem 1 pri 0 65535\ndtq 1 fifo 0\nnode 1 10.0.0.2 0 0\nflg 1 fifo many keep 0\ndtq 1 fifo 0\ntask 1 16 act\nend\n";
+
+#[test]
+fn prints_each_kernel_line(rt: HostRuntime) -> Result<(), Fail> {
+    let script = read(rt.alloc(), KERNEL_SCRIPT)?;
+    let mut out = Vec::new(rt.alloc());
+    print_into(rt.alloc(), &script, &mut out)?;
+    assert_eq!(rt; out.as_slice(), KERNEL_SCRIPT);
+    Ok(())
+}
+
+fn flag(id: u32, pri: bool, many: bool, clr: bool, init: u32) -> FlgDecl {
+    FlgDecl {
+        id,
+        pri,
+        many,
+        clr,
+        init,
+    }
+}
+
+fn queue(id: u32, pri: bool, cap: u32) -> DtqDecl {
+    DtqDecl { id, pri, cap }
+}
+
+#[test]
+fn gives_a_node_all_its_objects(rt: HostRuntime) -> Result<(), Fail> {
+    let script = read(rt.alloc(), KERNEL_SCRIPT)?;
+    let conf = conf_of(rt.alloc(), &script)?;
+    let node = &conf.nodes[0];
+    let flags = [
+        flag(1, false, false, true, 4294967295),
+        flag(16, true, true, false, 0),
+    ];
+    let dormant = TaskDecl {
+        id: 1,
+        pri: 1,
+        act: false,
+    };
+    let by_priority = SemDecl {
+        id: 1,
+        pri: true,
+        init: 0,
+        max: 65535,
+    };
+    assert_eq!(rt; node.tasks.as_slice(), [dormant].as_slice());
+    assert_eq!(rt; node.sems.as_slice(), [by_priority].as_slice());
+    assert_eq!(rt; node.flags.as_slice(), flags.as_slice());
+    assert_eq!(rt;
+        node.dtqs.as_slice(),
+        [queue(16, true, 1024), queue(1, false, 0)].as_slice()
+    );
     Ok(())
 }
 
@@ -91,7 +148,7 @@ fn names_the_cause_of_a_wrong_call(rt: HostRuntime) -> Result<(), Fail> {
         ("twai_sem 1 4294967301", Why::Range),
         ("twai_sem 1 18446744073709551617", Why::Range),
         ("twai_sem 4294967296 5", Why::Range),
-        ("twai_sem 1 nblk", Why::Form),
+        ("twai_sem 1 non", Why::Form),
         ("twai_sem 1 05", Why::Form),
         ("twai_sem 1 5 ", Why::Form),
         ("twai_sem 1 fevr5", Why::Form),
@@ -124,9 +181,19 @@ fn names_the_cause_of_a_wrong_call(rt: HostRuntime) -> Result<(), Fail> {
         ("udp_snd_dat 1 10.0.0.2:7 x0g pol", Why::Form),
         ("udp_snd_dat 1 10.0.0.2:7 00 pol", Why::Form),
         ("udp_snd_dat 1 10.0.0.2:7 x00", Why::Form),
-        ("ext_tsk", Why::Form),
-        ("act_tsk 1", Why::Form),
-        ("get_tim", Why::Form),
+        ("ext_tsk 1", Why::Form),
+        ("act_tsk", Why::Form),
+        ("act_tsk 4294967296", Why::Range),
+        ("chg_pri 1 4294967296", Why::Range),
+        ("set_flg 1 4294967296", Why::Range),
+        ("twai_flg 1 1 fevr", Why::Form),
+        ("twai_flg 1 1 any fevr", Why::Form),
+        ("twai_flg 1 1 or 0", Why::Range),
+        ("fsnd_dtq 1 4294967296", Why::Range),
+        ("set_tim 9223372036854775808", Why::Range),
+        ("get_tim 1", Why::Form),
+        ("sta_cyc 1", Why::Form),
+        ("stp_cyc 1", Why::Form),
         ("udp_del_cep 1", Why::Form),
         ("tcp_cre_rep 1 65536", Why::Form),
     ];
@@ -137,6 +204,38 @@ fn names_the_cause_of_a_wrong_call(rt: HostRuntime) -> Result<(), Fail> {
         assert_eq!(rt;
             refusal(rt.alloc(), text.as_bytes()),
             Some(ReadBad::Refused(6, why))
+        );
+    }
+    Ok(())
+}
+
+#[test]
+fn names_the_cause_of_a_wrong_declaration(rt: HostRuntime) -> Result<(), Fail> {
+    let table = [
+        ("sem 1 prio 0 1", Why::Form),
+        ("flg 17 fifo one clr 0", Why::Range),
+        ("flg 1 fifo one clr 4294967296", Why::Range),
+        ("flg 1 one fifo clr 0", Why::Form),
+        ("flg 1 fifo one 0", Why::Form),
+        ("flg 1 fifo one clr", Why::Form),
+        ("flg 2 pri many keep 1", Why::Twice),
+        ("dtq 0 fifo 1", Why::Range),
+        ("dtq 1 fifo 1025", Why::Range),
+        ("dtq 1 pri", Why::Form),
+        ("dtq 1 fifo 1 ", Why::Form),
+        ("dtq 3 pri 2", Why::Twice),
+        ("task 1 1 dormant", Why::Form),
+        ("task 1 17 dor", Why::Range),
+        ("cyc 1 1 0 on", Why::Form),
+        ("cbr 1", Why::Form),
+    ];
+    for (declaration, why) in table {
+        let text = format!(in rt.alloc();
+            "itron 1\nlink 1 0 0 0\nticks 0\nnode 0 0.0.0.1 0 0\nflg 2 fifo one clr 0\ndtq 3 fifo 0\n{declaration}\n"
+        )?;
+        assert_eq!(rt;
+            refusal(rt.alloc(), text.as_bytes()),
+            Some(ReadBad::Refused(7, why))
         );
     }
     Ok(())
