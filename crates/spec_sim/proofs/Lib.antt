@@ -1,4 +1,3 @@
-pub mod SetTimes
 pub mod Declarable
 pub mod Turns
 pub mod Underway

@@ -25,8 +25,3 @@ is_admitted w (events.Deliver number) = is_sent w.packets number
 is_admitted w events.Stop = true
 is_admitted w (events.Begin id) = false
 is_admitted w (events.Finish id) = false
-
--- a request of the event that sets the system time sets one below 2^63 ticks
-abbrev pub sets_in_range : Event → Bool
-sets_in_range (events.Call id ctx request) = node.sets_in_range request
-sets_in_range _ = true

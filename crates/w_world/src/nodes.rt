@@ -4,7 +4,6 @@ ghost use Rattle.it_types.specs.Configuration.{first_conf, kernel_conf, second_c
 ghost use Rattle.spec_kernel.specs.Opening.{IsDeclarable};
 ghost use Rattle.spec_node.specs.declared.event.NodeEvent.TheVariants.{Call as Called, Return as Returned, Tick as Ticked, Arrive as Arrived};
 ghost use Rattle.spec_world.specs.PlainWorld.{nodes_step, opened_world};
-ghost use Rattle.spec_node.specs.Admitted.{sets_in_range};
 ghost use Rattle.spec_world.specs.Admitted.{is_admitted_at};
 ghost use Rattle.w_world.specs.Room.{HaveRoom};
 
@@ -82,7 +81,6 @@ impl Nodes {
     ) -> Result<Out, NoMemory>
         requires admitted { is_admitted_at self.old id (Called ctx request.now) ≡ true }
         requires room { HaveRoom self.old }
-        requires time { sets_in_range request.now ≡ true }
         ensures { IfOk result (λ o. nodes_step self.old id (Called ctx request.now) ≡ (self.new, o)) }
     {
         if id.0 == 0 {

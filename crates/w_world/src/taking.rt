@@ -1,7 +1,7 @@
 //! What an event comes to at its node.
 
 ghost use Rattle.std.specs.Prelude.{◌≡◌, true, IfOk};
-ghost use Rattle.spec_world.specs.Admitted.{is_admitted, sets_in_range};
+ghost use Rattle.spec_world.specs.Admitted.{is_admitted};
 ghost use Rattle.spec_world.specs.PlainWorld.{peer_of};
 ghost use Rattle.w_world.specs.Room.{HaveRoom};
 ghost use Rattle.w_world.specs.Sending.{world_in};
@@ -70,7 +70,6 @@ pub fn take(
 ) -> Result<Taken, NoMemory>
     requires admitted { is_admitted (world_in nodes.old log.now sent.now) event.now ≡ true }
     requires room { HaveRoom nodes.old }
-    requires time { sets_in_range event.now ≡ true }
     ensures { IfOk result (λ t. Takes (world_in nodes.old log.now sent.now) event.now nodes.new t.by t.out) }
 {
     match event {

@@ -4,7 +4,7 @@ ghost use Rattle.it_types.specs.Configuration.{first_conf, kernel_conf, second_c
 ghost use Rattle.spec_kernel.specs.Opening.{IsDeclarable};
 ghost use Rattle.spec_world.specs.declared.refusal.WErr.{WErr as AWErr};
 ghost use Rattle.spec_world.specs.PlainWorld.{node_at, opened_world};
-ghost use Rattle.spec_world.specs.Admitted.{is_admitted, sets_in_range};
+ghost use Rattle.spec_world.specs.Admitted.{is_admitted};
 ghost use Rattle.spec_world.specs.Sizes.{is_full};
 ghost use Rattle.spec_world.specs.History.{IsRun, ends_with_stop, is_unsent, opened_history, refusal, stepped, world_of};
 ghost use Rattle.laws_world.specs.AtRest.{LogRests};
@@ -116,11 +116,8 @@ impl World {
     /// - `NotAdmitted`: there is no such node; the caller isn't the task in the RUNNING state, or holds an answer that it
     ///   hasn't taken; the task that returns doesn't run or holds none; or a handler is to begin or end.
     ///
-    /// With `NoMemory` memory ran out in this step: the history is that of the steps before, and the world has ended. A `set_tim`
-    /// sets a time below 2^63 ticks.
+    /// With `NoMemory` memory ran out in this step: the history is that of the steps before, and the world has ended.
     pub fn step(&mut self, alloc: Global, ev: Event) -> Result<(), WErr>
-        requires time { sets_in_range ev ≡ true }
-
         // The first test that refuses the event gives the answer, and nothing changes.
         ensures refused { (e : AWErr) → refusal self.old ev ≡ Some e → (result ≡ Err e) × (self.new ≡ self.old) }
 
@@ -141,8 +138,7 @@ impl World {
 
     /// Carries out an event that nothing refuses. Without memory the world has ended.
     fn carry_out(&mut self, alloc: Global, ev: Event) -> Result<(), NoMemory>
-        requires admitted { refusal self.old ev ≡ None }
-        requires time { sets_in_range ev ≡ true }
+        requires { refusal self.old ev ≡ None }
         ensures ok { OnOk result (self.new ≡ stepped self.old ev) }
         ensures err { OnErr result (self.new ≡ record self.old { ended = true }) }
     {
