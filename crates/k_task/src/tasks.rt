@@ -1,5 +1,6 @@
 ghost use Rattle.std.specs.Prelude.{◌≡◌, ◌<◌, ◌+◌, ◌^◌};
-ghost use Rattle.spec_kernel.specs.TaskBlocks.{priority_of};
+ghost use Rattle.std.specs.List.{list_any};
+ghost use Rattle.spec_kernel.specs.TaskBlocks.{is_active, priority_of};
 ghost use Rattle.spec_kernel.specs.PlainTasks.{block_of, is_asleep, is_waiting, is_woken, running, waiting, woken};
 ghost use Rattle.spec_kernel.specs.declared.task_wait.TaskWait.TheVariants.{Other};
 ghost use Rattle.k_task.specs.Kept.{Standing};
@@ -7,7 +8,7 @@ ghost use Rattle.k_task.specs.Kept.{Standing};
 use crate::blocks::priority_of;
 use crate::order::first_of;
 use arrayvec::ArrayVec;
-use it_types::{Table, TaskId};
+use it_types::{GREATEST_ID, Table, TaskId};
 use spec_kernel::{TaskBlock, TaskWait};
 use std::marker::Model;
 
@@ -45,6 +46,18 @@ impl Tasks {
         ensures standing { Standing self.now }
     {
         first_of(&self.tasks, self.runnable.as_slice())
+    }
+
+    /// Whether a task is active.
+    pub fn is_any_active(&self) -> bool
+        ensures { result ≡ list_any is_active self.now.tasks }
+    {
+        for id in 1..=GREATEST_ID {
+            if self.tasks.get(id).is_some_and(|block| block.active) {
+                return true;
+            }
+        }
+        false
     }
 
     /// The priority of a task; 0 where there is no such task.

@@ -13,3 +13,5 @@ pub mod Numbers
 pub mod Room
 pub mod Callers
 pub mod Drawing
+pub mod OutsideEnds
+pub mod Unpast

@@ -1,31 +1,21 @@
--- What ends by time in the whole kernel: where nothing is due no deadline is past; a call, and a wait outside, leave none past; and each
--- end by time leaves fewer calls.
-use Rattle.std.proofs.Common.{◌≡◌, ℕ, zero, suc, ◌+◌, ◌≤◌, Bool, false, List, [], ◌∷◌, length, Option, Some, None, refl, sym, ◌∙◌, subst, inl, inr, arith}
+-- What ends by time in the whole kernel: where nothing is due no deadline is past; a wait outside leaves none past; and each end by time
+-- leaves fewer calls.
+use Rattle.std.proofs.Common.{◌≡◌, ℕ, zero, suc, ◌+◌, ◌≤◌, false, List, [], ◌∷◌, length, Some, None, refl, sym, ◌∙◌, subst, inl, inr, arith}
 use Rattle.std.proofs.lemmas.Bool.{lt-leb}
 use Rattle.it_types.specs.declared.id.TaskId.{TaskId}
 use Rattle.it_types.specs.declared.id.CallNo.{CallNo}
 use Rattle.it_types.specs.declared.timeout.Tmo.{Tmo}
 use Rattle.it_types.specs.declared.timeout.Tmo.TheVariants as timeouts
-use Rattle.it_types.specs.declared.context.Ctx.{Ctx}
-use Rattle.it_types.specs.declared.kernel_request.KReq.{KReq}
 use Rattle.spec_lists.specs.First.{take_first}
-use Rattle.spec_lists.proofs.Firsts.{cases_of_first, found, none_append, none_from_parts, none_parts, some_parts, take_first-shorter}
+use Rattle.spec_lists.proofs.Firsts.{cases_of_first, found, none_append, none_from_parts, take_first-shorter}
 use Rattle.spec_kernel.specs.declared.reason.WaitReason.{WaitReason}
 use Rattle.spec_kernel.specs.declared.reason.WaitReason.TheVariants as reasons
 use Rattle.spec_kernel.specs.declared.reason.WaitingCall.{WaitingCall}
-use Rattle.spec_kernel.specs.PlainKernel.{PlainKernel, is_of}
+use Rattle.spec_kernel.specs.PlainKernel.{PlainKernel}
 use Rattle.spec_kernel.specs.Settle.{Outcome, comes_next, next_freed, freed, settle, settled}
-use Rattle.spec_kernel.specs.Rows.{with_wait, waiting_call, deadline_of, moved, the_others, call}
+use Rattle.spec_kernel.specs.Rows.{with_wait, waiting_call, deadline_of}
 use Rattle.spec_kernel.specs.Time.{is_past, NoneIsPast, is_next_past, next_past, by_time, due, blocked, is_outside_of, unblocked}
-use Rattle.spec_kernel.specs.Standing.{IsStanding}
 use Rattle.spec_kernel.proofs.Least.{none_least, none_passes}
-use Rattle.laws_kernel.specs.Calling.{Calls}
-use Rattle.laws_kernel.proofs.Acting.{Act, Blocks}
-use Rattle.laws_kernel.proofs.Acting.Act.{stays, wakes, lies_down, begins, suspends, resumes, goes_last, waits_last}
-use Rattle.laws_kernel.proofs.Acting.Blocks.{blocks}
-use Rattle.laws_kernel.proofs.Standing.{act_stands, block_stands}
-use Rattle.laws_kernel.proofs.RowActs.{Keeps}
-use Rattle.laws_kernel.proofs.Events.{call_holds}
 
 -- ---- the next end by time
 
@@ -88,18 +78,6 @@ due_shorter k o e =
 
 -- ---- no deadline is past between events
 
-none_past_others : (f : WaitingCall → Bool) (now : ℕ) (ws : List WaitingCall) (o : Option (WaitingCall × List WaitingCall)) → take_first f ws ≡ o → take_first (is_past now) ws ≡ None → take_first (is_past now) (the_others ws o) ≡ None
-none_past_others f now ws None e none = none
-none_past_others f now ws (Some z) e none = (found f (is_past now) ws z none e).1
-
--- what is found where nothing passes another test doesn't pass it either
-fails_too : {X : Type 0} (f g : X → Bool) (xs : List X) (z : X × List X) → take_first g xs ≡ None → take_first f xs ≡ Some z → g z.0 ≡ false
-fails_too f g [] z n e = cc
-fails_too f g (x ∷ xs) z n e = elim (some_parts f x xs z e) [
-  | inl s ↦ rw s.1 (none_parts g x xs n).0
-  | inr s ↦ rw s.3 (fails_too f g xs s.0 (none_parts g x xs n).1 s.2)
-]
-
 -- a deadline that is set is to come
 new_not_past : (now : ℕ) (number : CallNo) (task : TaskId) (reason : WaitReason) (tmo : Tmo) (rank : ℕ) → is_past now (record { call = number; task = task; reason = reason; deadline = deadline_of now tmo; rank = rank }) ≡ false
 new_not_past now number task reason (timeouts.Ms ticks) rank = lt-leb (now + ticks + 1) now (omega arith)
@@ -115,44 +93,7 @@ waiting_none_past k task reason tmo number none =
     new : WaitingCall
     new = waiting_call k task reason tmo number
 
-moved_none_past : (k : PlainKernel) (f : WaitingCall → Bool) (o : Option (WaitingCall × List WaitingCall)) → take_first f k.waits ≡ o → NoneIsPast k → NoneIsPast (moved k o)
-moved_none_past k f None e none = none
-moved_none_past k f (Some z) e none =
-    none_append (is_past k.clock.now) z.1 (moved_call ∷ []) (found f (is_past k.clock.now) k.waits z none e).1 (none_from_parts (is_past k.clock.now) moved_call [] (fails_too f (is_past k.clock.now) k.waits z none e) refl)
-  where
-    moved_call : WaitingCall
-    moved_call = record z.0 { rank = k.next_rank }
-
-act_none_past : (k l : PlainKernel) → Act k l → NoneIsPast k → NoneIsPast l
-act_none_past k l (stays same r w n last now) none = subst (λ m. take_first (is_past m) l.waits ≡ None) (sym now) (subst (λ ws. take_first (is_past k.clock.now) ws ≡ None) (sym w) none)
-act_none_past k l (wakes f z e is) none = subst NoneIsPast (sym is) (found f (is_past k.clock.now) k.waits z none e).1
-act_none_past k l (lies_down t is) none = subst NoneIsPast (sym is) (none_past_others (is_of t.0) k.clock.now k.waits (take_first (is_of t.0) k.waits) refl none)
-act_none_past k l (begins t x e inactive is) none = subst NoneIsPast (sym is) none
-act_none_past k l (suspends t is) none = subst NoneIsPast (sym is) none
-act_none_past k l (resumes t left active suspended is) none = subst NoneIsPast (sym is) none
-act_none_past k l (goes_last f is) none = subst NoneIsPast (sym is) none
-act_none_past k l (waits_last f is) none = subst NoneIsPast (sym is) (moved_none_past k f (take_first f k.waits) refl none)
-
-block_none_past : (number : CallNo) (k l : PlainKernel) → Blocks number k l → NoneIsPast k → NoneIsPast l
-block_none_past number k l (blocks t reason tmo listed is) none = subst NoneIsPast (sym is) (waiting_none_past k t reason tmo number none)
-
-StandsUnpast : Bool → PlainKernel → Type 0
-StandsUnpast b k = IsStanding k × NoneIsPast k
-
-unpast_kept : (number : CallNo) → Keeps number StandsUnpast
-unfolding StandsUnpast
-unpast_kept number = record {
-  act = λ b k l a p. (act_stands k l a p.0, act_none_past k l a p.1);
-  block = λ k l a p. (block_stands number k l a p.0, block_none_past number k l a p.1);
-  stands = λ b k p. p.0;
-}
-
--- a call leaves no deadline past where none was
-pub call_none_past : (k : PlainKernel) (ctx : Ctx) (request : KReq) (number : CallNo) → IsStanding k → Calls k ctx → NoneIsPast k → NoneIsPast (call k ctx request number).kernel
-unfolding StandsUnpast
-call_none_past k ctx request number s calls none = (call_holds StandsUnpast (unpast_kept number) k ctx request calls (s, none)).1
-
--- nor does a wait outside
+-- a wait outside leaves none past
 pub blocked_none_past : (k : PlainKernel) (task : TaskId) (tmo : Tmo) (number : CallNo) → NoneIsPast k → NoneIsPast (blocked k task tmo number)
 blocked_none_past k task tmo number none = waiting_none_past k task reasons.Outside tmo number none
 

@@ -1,9 +1,7 @@
-ghost use Rattle.std.specs.Prelude.{ℕ, ◌≡◌, ◌≢◌, ◌<◌, ◌≤◌, ◌+◌, ◌-◌, ◌^◌, IfOk};
+ghost use Rattle.std.specs.Prelude.{◌≡◌, ◌≢◌, ◌<◌, ◌≤◌, ◌+◌, ◌-◌, ◌^◌, IfOk};
 ghost use Rattle.it_types.specs.declared.context.Ctx.TheVariants.{Task as InTask};
 ghost use Rattle.spec_node.specs.declared.event.NodeEvent.TheVariants.{Call as Called};
-ghost use Rattle.it_types.specs.declared.kernel_request.KReq.{KReq as AKReq};
 ghost use Rattle.spec_node.specs.PlainNode.{running_in};
-ghost use Rattle.spec_node.specs.Admitted.{SetsInRange};
 ghost use Rattle.spec_node.specs.NodeStep.{node_step, kernel_called, kernel_answer, drawn};
 ghost use Rattle.n_node.specs.Plain.{plain};
 ghost use Rattle.n_node.specs.Kept.{Kept};
@@ -46,7 +44,6 @@ impl Parts {
         requires calls { self.old.calls < 2 ^ 31 - 1 }
         requires now { self.old.kernel.clock.now < 2 ^ 59 }
         requires ranks { self.old.kernel.next_rank < 2 ^ 59 }
-        requires time { SetsInRange request.now }
         ensures { IfOk result (λ o. node_step (plain self.old) (Called (InTask by) request.now) ≡ (plain self.new, o)) }
     {
         match request.kernel() {
@@ -63,7 +60,6 @@ impl Parts {
         requires calls { self.old.calls < 2 ^ 31 - 1 }
         requires now { self.old.kernel.clock.now < 2 ^ 59 }
         requires ranks { self.old.kernel.next_rank < 2 ^ 59 }
-        requires time { (ms : ℕ) → request.now ≡ AKReq.SetTim ms → ms < 2 ^ 63 }
         ensures { IfOk result (λ o. kernel_called (plain self.old) (InTask by) request.now ≡ (plain self.new, o)) }
     {
         let before = self.kernel.running();

@@ -6,7 +6,7 @@ ghost use Rattle.spec_kernel.specs.TaskBlocks.{is_active};
 ghost use Rattle.spec_kernel.specs.Opening.{IsDeclarable};
 ghost use Rattle.spec_node.specs.declared.event.NodeEvent.TheVariants.{Call as Called, Return as Returned, Tick as Ticked, Arrive as Arrived};
 ghost use Rattle.spec_node.specs.PlainNode.{opened_node, running_task, holds_answer};
-ghost use Rattle.spec_node.specs.Admitted.{SetsInRange, is_admitted};
+ghost use Rattle.spec_node.specs.Admitted.{is_admitted};
 ghost use Rattle.spec_node.specs.NodeStep.{node_step};
 
 use crate::Parts;
@@ -112,14 +112,12 @@ impl Node {
         task.0 != 0 && self.running().0 == task.0
     }
 
-    /// The caller makes the call, which is admitted. A `set_tim` sets a time below 2^63 ticks. Without memory the node is not used
-    /// again.
+    /// The caller makes the call, which is admitted. Without memory the node is not used again.
     pub fn call(&mut self, alloc: Global, ctx: Ctx, request: &Req) -> Result<Out, NoMemory>
         requires admitted { is_admitted self.old (Called ctx request.now) ≡ true }
         requires calls { self.old.calls < 2 ^ 31 - 1 }
         requires now { self.old.kernel.clock.now < 2 ^ 59 }
         requires ranks { self.old.kernel.next_rank < 2 ^ 59 }
-        requires time { SetsInRange request.now }
         ensures { IfOk result (λ o. node_step self.old (Called ctx request.now) ≡ (self.new, o)) }
     {
         if self.failed {

@@ -1,11 +1,8 @@
 -- Which events are admitted at a node: a call of the running task, which holds no answer; the return of the running task,
 -- which holds one; a tick and an arrival always. No handler begins yet. It is this project's own.
-use Rattle.std.specs.Prelude.{◌≡◌, ℕ, ◌<◌, ◌^◌, Bool, Some, true, false, not, ◌&&◌, ◌==◌}
+use Rattle.std.specs.Prelude.{Bool, true, false, not, ◌&&◌, ◌==◌}
 use Rattle.it_types.specs.declared.id.TaskId.{TaskId}
 use Rattle.it_types.specs.declared.context.Ctx.TheVariants as contexts
-use Rattle.it_types.specs.declared.kernel_request.KReq.TheVariants.{SetTim}
-use Rattle.it_types.specs.declared.request.Req.{Req}
-use Rattle.it_types.specs.Requests.{kernel_of}
 use Rattle.spec_node.specs.declared.event.NodeEvent.{NodeEvent}
 use Rattle.spec_node.specs.declared.event.NodeEvent.TheVariants.{Call, Return, Tick, Arrive}
 use Rattle.spec_node.specs.PlainNode.{PlainNode, running_task, holds_answer}
@@ -20,7 +17,3 @@ is_admitted n (Call contexts.Handler request) = false
 is_admitted n (Return task) = is_running n task && holds_answer n task
 is_admitted n Tick = true
 is_admitted n (Arrive bytes) = true
-
--- a request that sets the system time sets one below 2^63 ticks
-abbrev pub SetsInRange : Req → Type 0
-SetsInRange request = (ms : ℕ) → kernel_of request ≡ Some (SetTim ms) → ms < 2 ^ 63

@@ -11,10 +11,10 @@ use Rattle.it_types.specs.declared.conf.TaskDecl.{TaskDecl}
 use Rattle.it_types.specs.declared.conf.SemDecl.{SemDecl}
 use Rattle.it_types.specs.Configuration.{kernel_conf, first_conf, second_conf}
 use Rattle.spec_lists.specs.Tables.{get, empty_table}
-use Rattle.spec_kernel.specs.declared.task.Task.{Task}
-use Rattle.spec_kernel.specs.declared.semaphore.Semaphore.{Semaphore}
-use Rattle.spec_kernel.specs.PlainKernel.{greatest_id}
-use Rattle.spec_kernel.specs.Opening.{task_id, task_at_start, semaphore_id, semaphore_at_start, are_new_ids, is_good_task, is_good_semaphore, IsDeclarable}
+use Rattle.spec_kernel.specs.Ids.{greatest_id, task_id, are_new_ids}
+use Rattle.spec_kernel.specs.TaskOpening.{block_at_start, keeps_priority}
+use Rattle.spec_kernel.specs.SemaphoreBlocks.{semaphore_id, semaphore_declared, keeps_ranges}
+use Rattle.spec_kernel.specs.Opening.{IsDeclarable}
 use Rattle.spec_script.specs.declared.script.Script.{Script}
 use Rattle.spec_script.specs.declared.script.NodeDecl.{NodeDecl}
 use Rattle.spec_script.specs.declared.decl.Decl.{Decl}
@@ -23,7 +23,7 @@ use Rattle.spec_script.specs.declared.decl.Decl.TheVariants as declarations
 use Rattle.spec_script.specs.declared.script_line.ScriptLine.{ScriptLine}
 use Rattle.spec_script.specs.declared.script_line.ScriptLine.TheVariants.{SecondNode}
 use Rattle.spec_script.specs.Lines.{first_node, second_node, node_line, declaration_lines, head_lines}
-use Rattle.spec_script.specs.Ranges.{within, is_at_most, is_in_range, is_task, is_semaphore, is_written_declaration, are_distinct, AreGood, IsGood}
+use Rattle.spec_script.specs.Ranges.{within, is_at_most, is_in_range, is_task, is_semaphore, is_repeated, is_written_declaration, are_distinct, AreGood, IsGood}
 use Rattle.spec_script.specs.Configuration.{declared_tasks, declared_semaphores, node_conf, conf_of}
 
 -- a place is free exactly where no declaration before has its id
@@ -55,103 +55,156 @@ first_in_range : (d : Decl) (ds : List Decl)
 first_in_range d ds e =
     and_parts (list_all is_in_range (declaration_lines d)) (list_all is_in_range (flat_map declaration_lines ds)) (sym (list_all-append is_in_range (declaration_lines d) (flat_map declaration_lines ds)) ∙ ap (list_all is_in_range) (sym (flat_map-cons declaration_lines d ds)) ∙ e)
 
--- ---- tasks
+-- ---- one kind
 
-task_new : (t : TaskDecl) (id : ℕ) → (t.id == id) ≡ false → id ≢ t.id
-task_new t id e same = absurd (let f : true ≡ false = sym (eq-eqb t.id id (sym same)) ∙ e in cc)
+some_is : {D : Type 0} {x y : D} → Some x ≡ Some y → x ≡ y
+some_is e = cc
 
-semaphore_new : (s : SemDecl) (id : ℕ) → (s.id == id) ≡ false → id ≢ s.id
-semaphore_new s id e same = absurd (let f : true ≡ false = sym (eq-eqb s.id id (sym same)) ∙ e in cc)
+abbrev and_more : {D : Type 0} → Option D → List D → List D
+and_more None xs = xs
+and_more (Some x) xs = x ∷ xs
 
-task_range : (t : TaskDecl) (body : Body) → list_all is_in_range (declaration_lines (declarations.Task t body)) ≡ true → (within 1 (Some t.id) 16 ≡ true) × (within 1 (Some t.pri) 16 ≡ true)
-task_range t body e = and_parts (within 1 (Some t.id) 16) (within 1 (Some t.pri) 16) (and_parts (within 1 (Some t.id) 16 && within 1 (Some t.pri) 16) _ e).0
+-- the declarations of one kind
+abbrev among : {D : Type 0} → (Decl → Option D) → List Decl → List D
+among of_kind [] = []
+among of_kind (d ∷ ds) = and_more (of_kind d) (among of_kind ds)
 
-tasks_are_new : (before ds : List Decl) (objects : List (Option Task))
-    → IsFreeBy objects is_task before
-    → are_distinct before ds ≡ true
-    → list_all is_in_range (flat_map declaration_lines ds) ≡ true
-    → are_new_ids task_id task_at_start objects (declared_tasks ds) ≡ true
-tasks_are_new before [] objects free distinct ranges = refl
-tasks_are_new before (declarations.Task t body ∷ ds) objects free distinct ranges =
-    let d : Decl = declarations.Task t body in
-    let new = and_parts (not (list_any (is_task t.id) before)) (are_distinct (before ++ d ∷ []) ds) distinct in
-    let lines = first_in_range d ds ranges in
-    let id = and_parts (nat_le 1 t.id) (nat_le t.id 16) (task_range t body lines.0).0 in
-    let rest = tasks_are_new (before ++ d ∷ []) ds (set objects t.id (Some (task_at_start t))) (still_free objects is_task before d t.id (task_at_start t) (task_new t) free) new.1 lines.1 in
-    rw (id.0, id.1, free t.id (not-true _ new.0), rest) refl
-tasks_are_new before (declarations.Sem s ∷ ds) objects free distinct ranges =
-    let d : Decl = declarations.Sem s in
-    tasks_are_new (before ++ d ∷ []) ds objects (stays_free objects is_task before d free) (and_parts (not (list_any (is_semaphore s.id) before)) _ distinct).1 (first_in_range d ds ranges).1
+-- the test of an id is that of the kind's declarations, and each has an id from 1 to 16
+record IsKind {D : Type 0} (id_of : D → ℕ) (of_kind : Decl → Option D) (has : ℕ → Decl → Bool) : Type 0 where
+  own : (d : Decl) (x : D) → of_kind d ≡ Some x → (id : ℕ) → has id d ≡ (id_of x == id)
+  repeated : (before : List Decl) (d : Decl) (x : D) → of_kind d ≡ Some x → is_repeated before d ≡ list_any (has (id_of x)) before
+  range : (d : Decl) (x : D) → of_kind d ≡ Some x → list_all is_in_range (declaration_lines d) ≡ true → within 1 (Some (id_of x)) 16 ≡ true
 
-tasks_are_good : (ds : List Decl)
-    → list_all is_written_declaration ds ≡ true
-    → list_all is_in_range (flat_map declaration_lines ds) ≡ true
-    → list_all is_good_task (declared_tasks ds) ≡ true
-tasks_are_good [] written ranges = refl
-tasks_are_good (declarations.Task t body ∷ ds) written ranges =
-    let w = and_parts (is_written_declaration (declarations.Task t body)) (list_all is_written_declaration ds) written in
-    let lines = first_in_range (declarations.Task t body) ds ranges in
-    let pri = and_parts (nat_le 1 t.pri) (nat_le t.pri 16) (task_range t body lines.0).1 in
-    rw (pri.0, pri.1, (and_parts t.act _ w.0).0, tasks_are_good ds w.1 lines.1) refl
-tasks_are_good (declarations.Sem s ∷ ds) written ranges =
-    tasks_are_good ds (and_parts (is_written_declaration (declarations.Sem s)) (list_all is_written_declaration ds) written).1 (first_in_range (declarations.Sem s) ds ranges).1
-
--- ---- semaphores
-
-semaphore_range : (s : SemDecl)
-    → list_all is_in_range (declaration_lines (declarations.Sem s)) ≡ true
-    → (within 1 (Some s.id) 16 ≡ true) × (is_at_most (Some s.init) (Some s.max) && within 1 (Some s.max) 65535) ≡ true
-semaphore_range s e = and_parts (within 1 (Some s.id) 16) (is_at_most (Some s.init) (Some s.max) && within 1 (Some s.max) 65535) (and_parts (within 1 (Some s.id) 16 && (is_at_most (Some s.init) (Some s.max) && within 1 (Some s.max) 65535)) true e).0
-
-semaphores_are_new : (before ds : List Decl) (objects : List (Option Semaphore))
-    → IsFreeBy objects is_semaphore before
-    → are_distinct before ds ≡ true
-    → list_all is_in_range (flat_map declaration_lines ds) ≡ true
-    → are_new_ids semaphore_id semaphore_at_start objects (declared_semaphores ds) ≡ true
-semaphores_are_new before [] objects free distinct ranges = refl
-semaphores_are_new before (declarations.Sem s ∷ ds) objects free distinct ranges =
-    let d : Decl = declarations.Sem s in
-    let new = and_parts (not (list_any (is_semaphore s.id) before)) (are_distinct (before ++ d ∷ []) ds) distinct in
-    let lines = first_in_range d ds ranges in
-    let id = and_parts (nat_le 1 s.id) (nat_le s.id 16) (semaphore_range s lines.0).0 in
-    let rest = semaphores_are_new (before ++ d ∷ []) ds (set objects s.id (Some (semaphore_at_start s))) (still_free objects is_semaphore before d s.id (semaphore_at_start s) (semaphore_new s) free) new.1 lines.1 in
-    rw (id.0, id.1, free s.id (not-true _ new.0), rest) refl
-semaphores_are_new before (declarations.Task t body ∷ ds) objects free distinct ranges =
-    let d : Decl = declarations.Task t body in
-    semaphores_are_new (before ++ d ∷ []) ds objects (stays_free objects is_semaphore before d free) (and_parts (not (list_any (is_task t.id) before)) _ distinct).1 (first_in_range d ds ranges).1
-
-semaphores_are_good : (ds : List Decl)
-    → list_all is_written_declaration ds ≡ true
-    → list_all is_in_range (flat_map declaration_lines ds) ≡ true
-    → list_all is_good_semaphore (declared_semaphores ds) ≡ true
-semaphores_are_good [] written ranges = refl
-semaphores_are_good (declarations.Sem s ∷ ds) written ranges =
-    let w = and_parts (is_written_declaration (declarations.Sem s)) (list_all is_written_declaration ds) written in
-    let lines = first_in_range (declarations.Sem s) ds ranges in
-    let counts = and_parts (nat_le s.init s.max) (within 1 (Some s.max) 65535) (semaphore_range s lines.0).1 in
-    let max = and_parts (nat_le 1 s.max) (nat_le s.max 65535) counts.1 in
-    rw (counts.0, max.0, max.1, w.0, semaphores_are_good ds w.1 lines.1) refl
-semaphores_are_good (declarations.Task t body ∷ ds) written ranges =
-    semaphores_are_good ds (and_parts (is_written_declaration (declarations.Task t body)) (list_all is_written_declaration ds) written).1 (first_in_range (declarations.Task t body) ds ranges).1
-
--- ---- both
-
-nothing_declared : (X : Type 0) (has : ℕ → Decl → Bool) (id : ℕ) → is_none (get {X = X} (replicate 17 None) id) ≡ true
-nothing_declared X has id = elim (cases_lt id 17) [
+nothing_declared : (X : Type 0) (id : ℕ) → is_none (get {X = X} (replicate 17 None) id) ≡ true
+nothing_declared X id = elim (cases_lt id 17) [
   | inl lt ↦ ap is_none (get_or-replicate {A = Option X} 17 id None None lt)
   | inr le ↦ ap is_none (get_or_past (replicate 17 None) id None (simp length-replicate le))
 ]
 
+module _ {D X : Type 0} (id_of : D → ℕ) (made : D → X) (of_kind : Decl → Option D) (has : ℕ → Decl → Bool) (kind : IsKind id_of of_kind has) where
+  -- the ids of the kind are new
+  are_new : (before ds : List Decl) (objects : List (Option X))
+      → IsFreeBy objects has before
+      → are_distinct before ds ≡ true
+      → list_all is_in_range (flat_map declaration_lines ds) ≡ true
+      → are_new_ids id_of made objects (among of_kind ds) ≡ true
+  are_new before [] objects free distinct ranges = refl
+  are_new before (d ∷ ds) objects free distinct ranges = of (of_kind d) refl (λ later is_free. are_new (before ++ d ∷ []) ds later is_free new.1 lines.1)
+    where
+      new : (is_repeated before d ≡ false) × (are_distinct (before ++ d ∷ []) ds ≡ true)
+      new = let parts = and_parts (not (is_repeated before d)) (are_distinct (before ++ d ∷ []) ds) distinct in (not-true _ parts.0, parts.1)
+
+      lines : (list_all is_in_range (declaration_lines d) ≡ true) × (list_all is_in_range (flat_map declaration_lines ds) ≡ true)
+      lines = first_in_range d ds ranges
+
+      other : (x : D) → of_kind d ≡ Some x → IsNew has (id_of x) d
+      other x is id e same = absurd (let f : true ≡ false = sym (eq-eqb (id_of x) id (sym same)) ∙ sym (kind.own d x is id) ∙ e in cc)
+
+      of : (o : Option D) → of_kind d ≡ o → ((later : List (Option X)) → IsFreeBy later has (before ++ d ∷ []) → are_new_ids id_of made later (among of_kind ds) ≡ true) → are_new_ids id_of made objects (and_more o (among of_kind ds)) ≡ true
+      of None is others = others objects (stays_free objects has before d free)
+      of (Some x) is others =
+          let id = and_parts (nat_le 1 (id_of x)) (nat_le (id_of x) 16) (kind.range d x is lines.0) in
+          let rest = others (set objects (id_of x) (Some (made x))) (still_free objects has before d (id_of x) (made x) (other x is) free) in
+          rw (id.0, id.1, free (id_of x) (sym (kind.repeated before d x is) ∙ new.0), rest) refl
+
+  new_in : (ds : List Decl) → are_distinct [] ds ≡ true → list_all is_in_range (flat_map declaration_lines ds) ≡ true → are_new_ids id_of made (empty_table greatest_id) (among of_kind ds) ≡ true
+  new_in ds distinct ranges = are_new [] ds (empty_table greatest_id) (λ id e. nothing_declared X id) distinct ranges
+
+-- each declaration of the kind keeps its ranges
+all_good : {D : Type 0} (of_kind : Decl → Option D) (good : D → Bool)
+    → ((d : Decl) (x : D) → of_kind d ≡ Some x → list_all is_in_range (declaration_lines d) ≡ true → good x ≡ true)
+    → (ds : List Decl)
+    → list_all is_in_range (flat_map declaration_lines ds) ≡ true
+    → list_all good (among of_kind ds) ≡ true
+all_good of_kind good each [] ranges = refl
+all_good {D} of_kind good each (d ∷ ds) ranges = of (of_kind d) refl (all_good of_kind good each ds (first_in_range d ds ranges).1)
+  where
+    of : (o : Option D) → of_kind d ≡ o → list_all good (among of_kind ds) ≡ true → list_all good (and_more o (among of_kind ds)) ≡ true
+    of None is rest = rest
+    of (Some x) is rest = rw (each d x is (first_in_range d ds ranges).0, rest) refl
+
+-- ---- tasks
+
+abbrev as_task : Decl → Option TaskDecl
+as_task (declarations.Task t body) = Some t
+as_task (declarations.Sem s) = None
+
+tasks_among : (ds : List Decl) → among as_task ds ≡ declared_tasks ds
+tasks_among [] = refl
+tasks_among (declarations.Task t body ∷ ds) = ap (λ ts. t ∷ ts) (tasks_among ds)
+tasks_among (declarations.Sem s ∷ ds) = tasks_among ds
+
+task_range : (t : TaskDecl) (body : Body) → list_all is_in_range (declaration_lines (declarations.Task t body)) ≡ true → (within 1 (Some t.id) 16 ≡ true) × (within 1 (Some t.pri) 16 ≡ true)
+task_range t body e = and_parts (within 1 (Some t.id) 16) (within 1 (Some t.pri) 16) (and_parts (within 1 (Some t.id) 16 && within 1 (Some t.pri) 16) _ e).0
+
+tasks_are : IsKind task_id as_task is_task
+tasks_are = record { own = own; repeated = repeated; range = range }
+  where
+    own : (d : Decl) (x : TaskDecl) → as_task d ≡ Some x → (id : ℕ) → is_task id d ≡ (x.id == id)
+    own (declarations.Task t body) x e id = ap (λ (y : TaskDecl). y.id == id) (some_is e)
+    own (declarations.Sem s) x e id = cc
+
+    repeated : (before : List Decl) (d : Decl) (x : TaskDecl) → as_task d ≡ Some x → is_repeated before d ≡ list_any (is_task x.id) before
+    repeated before (declarations.Task t body) x e = ap (λ (y : TaskDecl). list_any (is_task y.id) before) (some_is e)
+    repeated before (declarations.Sem s) x e = cc
+
+    range : (d : Decl) (x : TaskDecl) → as_task d ≡ Some x → list_all is_in_range (declaration_lines d) ≡ true → within 1 (Some x.id) 16 ≡ true
+    range (declarations.Task t body) x e lines = rw (← some_is e) (task_range t body lines).0
+    range (declarations.Sem s) x e lines = cc
+
+task_keeps : (d : Decl) (x : TaskDecl) → as_task d ≡ Some x → list_all is_in_range (declaration_lines d) ≡ true → keeps_priority x ≡ true
+task_keeps (declarations.Task t body) x e lines = rw (← some_is e) (task_range t body lines).1
+task_keeps (declarations.Sem s) x e lines = cc
+
+-- ---- semaphores
+
+abbrev as_semaphore : Decl → Option SemDecl
+as_semaphore (declarations.Task t body) = None
+as_semaphore (declarations.Sem s) = Some s
+
+semaphores_among : (ds : List Decl) → among as_semaphore ds ≡ declared_semaphores ds
+semaphores_among [] = refl
+semaphores_among (declarations.Task t body ∷ ds) = semaphores_among ds
+semaphores_among (declarations.Sem s ∷ ds) = ap (λ ss. s ∷ ss) (semaphores_among ds)
+
+semaphore_range : (s : SemDecl) → list_all is_in_range (declaration_lines (declarations.Sem s)) ≡ true → (within 1 (Some s.id) 16 ≡ true) × (keeps_ranges s ≡ true)
+semaphore_range s e = and_parts (within 1 (Some s.id) 16) (keeps_ranges s) (and_parts (within 1 (Some s.id) 16 && keeps_ranges s) true e).0
+
+semaphores_are : IsKind semaphore_id as_semaphore is_semaphore
+semaphores_are = record { own = own; repeated = repeated; range = range }
+  where
+    own : (d : Decl) (x : SemDecl) → as_semaphore d ≡ Some x → (id : ℕ) → is_semaphore id d ≡ (x.id == id)
+    own (declarations.Task t body) x e id = cc
+    own (declarations.Sem s) x e id = ap (λ (y : SemDecl). y.id == id) (some_is e)
+
+    repeated : (before : List Decl) (d : Decl) (x : SemDecl) → as_semaphore d ≡ Some x → is_repeated before d ≡ list_any (is_semaphore x.id) before
+    repeated before (declarations.Task t body) x e = cc
+    repeated before (declarations.Sem s) x e = ap (λ (y : SemDecl). list_any (is_semaphore y.id) before) (some_is e)
+
+    range : (d : Decl) (x : SemDecl) → as_semaphore d ≡ Some x → list_all is_in_range (declaration_lines d) ≡ true → within 1 (Some x.id) 16 ≡ true
+    range (declarations.Task t body) x e lines = cc
+    range (declarations.Sem s) x e lines = rw (← some_is e) (semaphore_range s lines).0
+
+semaphore_keeps : (d : Decl) (x : SemDecl) → as_semaphore d ≡ Some x → list_all is_in_range (declaration_lines d) ≡ true → keeps_ranges x ≡ true
+semaphore_keeps (declarations.Task t body) x e lines = cc
+semaphore_keeps (declarations.Sem s) x e lines = rw (← some_is e) (semaphore_range s lines).1
+
+-- ---- all kinds
+
 -- the declarations of a node that are good and in range can be declared at its kernel
 pub declarable : (n : NodeDecl) → AreGood n.decls → list_all is_in_range (flat_map declaration_lines n.decls) ≡ true → IsDeclarable (kernel_conf (node_conf n))
 declarable n good ranges = record {
-  task_ids = tasks_are_new [] n.decls (empty_table greatest_id) (λ id e. nothing_declared Task is_task id) good.distinct ranges;
-  tasks = tasks_are_good n.decls good.written ranges;
-  semaphore_ids = semaphores_are_new [] n.decls (empty_table greatest_id) (λ id e. nothing_declared Semaphore is_semaphore id) good.distinct ranges;
-  semaphores = semaphores_are_good n.decls good.written ranges;
-  flags = refl;
-  queues = refl;
-  cyclic_handlers = refl;
+  tasks = rw (← tasks_among n.decls) (record {
+    ids = new_in task_id block_at_start as_task is_task tasks_are n.decls good.distinct ranges;
+    ranges = all_good as_task keeps_priority task_keeps n.decls ranges;
+  });
+  semaphores = rw (← semaphores_among n.decls) (record {
+    ids = new_in semaphore_id semaphore_declared as_semaphore is_semaphore semaphores_are n.decls good.distinct ranges;
+    ranges = all_good as_semaphore keeps_ranges semaphore_keeps n.decls ranges;
+  });
+  flags = record { ids = refl };
+  queues = record { ids = refl; ranges = refl };
+  cyclic_handlers = record { ids = refl; ranges = refl };
 }
 
 -- the lines of the declarations of both nodes are in range

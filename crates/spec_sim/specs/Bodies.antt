@@ -1,6 +1,8 @@
 -- The calls that the body of a task makes, one after another. It is this project's own.
 use Rattle.std.specs.Prelude.{ℕ, ◌+◌, List, [], ◌∷◌, length, Option, Some, None, nat_lt, ◌==◌, if◌then◌else◌, slice_get, slice_index, slice_set}
 use Rattle.it_types.specs.declared.id.TaskId.{TaskId}
+use Rattle.it_types.specs.declared.mark.Mark.{Mark}
+use Rattle.it_types.specs.declared.mark.Mark.TheVariants.{Begun}
 use Rattle.it_types.specs.declared.request.Req.{Req}
 use Rattle.it_types.specs.declared.request.Req.TheVariants.{ExtTsk}
 use Rattle.spec_script.specs.declared.decl.Decl.{Decl}
@@ -32,3 +34,13 @@ onward lines place = if nat_lt place lines then place + 1 else place
 -- the places of a node's tasks after one of them made its next call
 abbrev pub moved_on : List Decl → TaskId → List ℕ → List ℕ
 moved_on decls task places = slice_set places task.0 (onward (length (body_of decls task)) (slice_index places task.0))
+
+-- the places after a mark: a task that begins is at the first line of its body
+abbrev pub after_mark : Mark → List ℕ → List ℕ
+after_mark (Begun task) places = slice_set places task.0 0
+after_mark _ places = places
+
+-- and after the marks of an entry, one after another
+abbrev pub after_marks : List Mark → List ℕ → List ℕ
+after_marks [] places = places
+after_marks (m ∷ ms) places = after_marks ms (after_mark m places)

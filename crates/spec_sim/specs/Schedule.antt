@@ -1,12 +1,13 @@
 -- The schedule: which event of a script is next. It is this project's own. No packet is lost, doubled or delayed: each is
 -- delivered once, as soon as it is sent, in the order of sending.
-use Rattle.std.specs.Prelude.{ℕ, ◌+◌, Bool, not, ◌&&◌, ◌||◌, List, length, nat_le, nat_lt, ◌==◌, if◌then◌else◌, slice_index, replicate}
+use Rattle.std.specs.Prelude.{ℕ, ◌+◌, Bool, false, not, ◌&&◌, ◌||◌, List, length, nat_le, nat_lt, ◌==◌, if◌then◌else◌, slice_index, replicate}
 use Rattle.std.specs.List.{list_any}
 use Rattle.it_types.specs.declared.id.NodeId.{NodeId}
 use Rattle.it_types.specs.declared.id.TaskId.{TaskId}
 use Rattle.it_types.specs.declared.context.Ctx.TheVariants as contexts
 use Rattle.it_types.specs.declared.event.Event.{Event}
 use Rattle.it_types.specs.declared.event.Event.TheVariants as events
+use Rattle.it_types.specs.declared.mark.Mark.{Mark}
 use Rattle.it_types.specs.declared.entry.Entry.{Entry}
 use Rattle.spec_kernel.specs.Ids.{greatest_id}
 use Rattle.spec_kernel.specs.TaskBlocks.{is_active}
@@ -17,7 +18,7 @@ use Rattle.spec_script.specs.Configuration.{conf_of}
 use Rattle.spec_node.specs.PlainNode.{PlainNode, running_task, holds_answer}
 use Rattle.spec_world.specs.PlainWorld.{Nodes, PlainWorld, step, opened_world}
 use Rattle.spec_world.specs.Sizes.{entry_size}
-use Rattle.spec_sim.specs.Bodies.{next_request, moved_on}
+use Rattle.spec_sim.specs.Bodies.{next_request, moved_on, after_marks}
 
 -- what the nodes declare, and how many ticks each has at most
 pub record Plan : Type 0 where
@@ -82,16 +83,24 @@ next plan p = if is_outstanding p then events.Deliver (record { 0 = p.delivered 
 
 -- ---- after an event
 
--- the places of a node's tasks after an event: a call of a task moves its place on
-abbrev pub places_after : NodeId → List Decl → Event → List ℕ → List ℕ
-places_after id decls (events.Call at (contexts.Task task) request) places = if at.0 == id.0 then moved_on decls task places else places
-places_after id decls (events.Call at contexts.Handler request) places = places
-places_after id decls (events.Return at task) places = places
-places_after id decls (events.Begin at) places = places
-places_after id decls (events.Finish at) places = places
-places_after id decls (events.Tick at) places = places
-places_after id decls (events.Deliver number) places = places
-places_after id decls events.Stop places = places
+-- the event happens at this node; in a delivery no task begins
+abbrev pub is_at : NodeId → Event → Bool
+is_at id (events.Call at ctx request) = at.0 == id.0
+is_at id (events.Return at task) = at.0 == id.0
+is_at id (events.Begin at) = at.0 == id.0
+is_at id (events.Finish at) = at.0 == id.0
+is_at id (events.Tick at) = at.0 == id.0
+is_at id (events.Deliver number) = false
+is_at id events.Stop = false
+
+-- a call of a task moves its place on
+abbrev pub places_onward : List Decl → Event → List ℕ → List ℕ
+places_onward decls (events.Call at (contexts.Task task) request) places = moved_on decls task places
+places_onward decls _ places = places
+
+-- the places of a node's tasks after an entry: its event moves one on, and each task that began is at its first line
+abbrev pub places_after : NodeId → List Decl → Event → List Mark → List ℕ → List ℕ
+places_after id decls event marked places = if is_at id event then after_marks marked (places_onward decls event places) else places
 
 abbrev pub delivered_after : Event → ℕ → ℕ
 delivered_after (events.Call id ctx request) delivered = delivered
@@ -106,8 +115,8 @@ unfoldable pub after : Plan → PlainPlay → Event → PlainPlay × Entry
 after plan p event = let stepped = step p.world event in (
   record {
     world = stepped.0;
-    first = places_after node_0 plan.first event p.first;
-    second = places_after node_1 plan.second event p.second;
+    first = places_after node_0 plan.first event stepped.1.marks p.first;
+    second = places_after node_1 plan.second event stepped.1.marks p.second;
     delivered = delivered_after event p.delivered;
     size = p.size + entry_size stepped.1;
   },

@@ -1,6 +1,7 @@
 -- The world of a script under way, by its history.
 use Rattle.std.specs.Prelude.{◌≡◌, ℕ, false, List, sum_by}
 use Rattle.it_types.specs.declared.event.Event.{Event}
+use Rattle.spec_world.specs.PlainWorld.{step}
 use Rattle.spec_world.specs.Sizes.{entry_size, is_full}
 use Rattle.spec_world.specs.History.{History, ends_with_stop, stepped, world_of}
 use Rattle.spec_sim.specs.Schedule.{Plan, PlainPlay, node_0, node_1, places_after, delivered_after}
@@ -22,10 +23,10 @@ play_of p = record {
 
 -- after an event, with the one entry more that the machine gives
 abbrev pub moved : Plan → Playing → Event → Playing
-moved plan p event = record {
+moved plan p event = let entry = (step (world_of p.history) event).1 in record {
   history = stepped p.history event;
-  first = places_after node_0 plan.first event p.first;
-  second = places_after node_1 plan.second event p.second;
+  first = places_after node_0 plan.first event entry.marks p.first;
+  second = places_after node_1 plan.second event entry.marks p.second;
   delivered = delivered_after event p.delivered;
 }
 

@@ -203,9 +203,12 @@ impl Play {
         requires next { event ≡ next (plan_of script.now) (play_of self.old) }
         ensures { OnOk result (self.new ≡ moved (plan_of script.now) self.old event) }
     {
-        move_after(&mut self.first, NodeId(0), first_decls(script), &event);
-        move_after(&mut self.second, NodeId(1), second_decls(script), &event);
         self.delivered = delivered_after(&event, self.delivered);
-        step_world(&mut self.world, alloc, event)
+        step_world(&mut self.world, alloc, event)?;
+        if let Some(entry) = self.world.log().last() {
+            move_after(&mut self.first, NodeId(0), first_decls(script), entry);
+            move_after(&mut self.second, NodeId(1), second_decls(script), entry);
+        }
+        Ok(())
     }
 }

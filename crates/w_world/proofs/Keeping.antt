@@ -59,8 +59,8 @@ module _ (conf : Conf) (nodes : Nodes) (log : List Entry) (sent : List Sent) (pa
       let short = room_short log is_free.room in
       let same : nodes ≡ (after (opened_world conf) log).nodes = ap (λ (w : PlainWorld). w.nodes) on.state in
       rw same (record {
-        first = record { calls = omega (arith, within.first.calls); now = omega (arith, within.first.now) };
-        second = record { calls = omega (arith, within.second.calls); now = omega (arith, within.second.now) };
+        first = record { calls = omega (arith, within.first.calls); now = omega (arith, within.first.now); ranks = omega (arith, within.first.ranks) };
+        second = record { calls = omega (arith, within.second.calls); now = omega (arith, within.second.now); ranks = omega (arith, within.second.ranks) };
       })
 
   module _ (nodes_after : Nodes) (by : NodeId) (out : Out) (takes : Takes (world_in nodes log sent) event nodes_after by out) where

@@ -76,10 +76,11 @@ impl World {
 
     /// Whether two nodes can be opened with this configuration: where what each of them declares is in these ranges.
     ///
-    /// - each id of a kind is from 1 to 16, and is declared once;
-    /// - a task has a priority from 1 to 16 and is active from the start;
-    /// - a semaphore has a maximum from 1 to 65,535 and begins with no more than that, and tasks wait on it by arrival;
-    /// - event flags, data queues and cyclic handlers can't be declared yet.
+    /// - each id of a kind is from 1 to 16, of a cyclic handler from 1 to 8, and is declared once;
+    /// - a task has a priority from 1 to 16;
+    /// - a semaphore has a maximum from 1 to 65,535 and begins with no more than that;
+    /// - a data queue has a capacity of at most 1,024 items;
+    /// - a cyclic handler has a period from 1 to 1,000,000 ticks and a phase of at most 1,000,000.
     pub fn can_open(conf: &Conf) -> bool
         ensures { IsTrue result ↔ CanOpen conf.now }
     {
