@@ -9,11 +9,15 @@ use Rattle.std.proofs.lemmas.List.Concat.{flat_map-cons}
 use Rattle.std.proofs.lemmas.List.Folds.{list_all-append, list_any-append}
 use Rattle.it_types.specs.declared.conf.TaskDecl.{TaskDecl}
 use Rattle.it_types.specs.declared.conf.SemDecl.{SemDecl}
+use Rattle.it_types.specs.declared.conf.FlgDecl.{FlgDecl}
+use Rattle.it_types.specs.declared.conf.DtqDecl.{DtqDecl}
 use Rattle.it_types.specs.Configuration.{kernel_conf, first_conf, second_conf}
 use Rattle.spec_lists.specs.Tables.{get, empty_table}
 use Rattle.spec_kernel.specs.Ids.{greatest_id, task_id, are_new_ids}
 use Rattle.spec_kernel.specs.TaskOpening.{block_at_start, keeps_priority}
 use Rattle.spec_kernel.specs.SemaphoreBlocks.{semaphore_id, semaphore_declared, keeps_ranges}
+use Rattle.spec_kernel.specs.FlagBlocks.{flag_id, flag_declared}
+use Rattle.spec_kernel.specs.DataQueues.{queue_id, queue_declared, keeps_capacity}
 use Rattle.spec_kernel.specs.Opening.{IsDeclarable}
 use Rattle.spec_script.specs.declared.script.Script.{Script}
 use Rattle.spec_script.specs.declared.script.NodeDecl.{NodeDecl}
@@ -23,8 +27,8 @@ use Rattle.spec_script.specs.declared.decl.Decl.TheVariants as declarations
 use Rattle.spec_script.specs.declared.script_line.ScriptLine.{ScriptLine}
 use Rattle.spec_script.specs.declared.script_line.ScriptLine.TheVariants.{SecondNode}
 use Rattle.spec_script.specs.Lines.{first_node, second_node, node_line, declaration_lines, head_lines}
-use Rattle.spec_script.specs.Ranges.{within, is_at_most, is_in_range, is_task, is_semaphore, is_repeated, is_written_declaration, are_distinct, AreGood, IsGood}
-use Rattle.spec_script.specs.Configuration.{declared_tasks, declared_semaphores, node_conf, conf_of}
+use Rattle.spec_script.specs.Ranges.{within, is_at_most, is_in_range, is_task, is_semaphore, is_flag, is_queue, is_repeated, is_written_declaration, are_distinct, AreGood, IsGood}
+use Rattle.spec_script.specs.Configuration.{declared_tasks, declared_semaphores, declared_flags, declared_queues, node_conf, conf_of}
 
 -- a place is free exactly where no declaration before has its id
 abbrev IsFreeBy : {X : Type 0} → List (Option X) → (ℕ → Decl → Bool) → List Decl → Type 0
@@ -127,12 +131,12 @@ all_good {D} of_kind good each (d ∷ ds) ranges = of (of_kind d) refl (all_good
 
 abbrev as_task : Decl → Option TaskDecl
 as_task (declarations.Task t body) = Some t
-as_task (declarations.Sem s) = None
+as_task _ = None
 
 tasks_among : (ds : List Decl) → among as_task ds ≡ declared_tasks ds
 tasks_among [] = refl
 tasks_among (declarations.Task t body ∷ ds) = ap (λ ts. t ∷ ts) (tasks_among ds)
-tasks_among (declarations.Sem s ∷ ds) = tasks_among ds
+tasks_among (_ ∷ ds) = tasks_among ds
 
 task_range : (t : TaskDecl) (body : Body) → list_all is_in_range (declaration_lines (declarations.Task t body)) ≡ true → (within 1 (Some t.id) 16 ≡ true) × (within 1 (Some t.pri) 16 ≡ true)
 task_range t body e = and_parts (within 1 (Some t.id) 16) (within 1 (Some t.pri) 16) (and_parts (within 1 (Some t.id) 16 && within 1 (Some t.pri) 16) _ e).0
@@ -142,30 +146,30 @@ tasks_are = record { own = own; repeated = repeated; range = range }
   where
     own : (d : Decl) (x : TaskDecl) → as_task d ≡ Some x → (id : ℕ) → is_task id d ≡ (x.id == id)
     own (declarations.Task t body) x e id = ap (λ (y : TaskDecl). y.id == id) (some_is e)
-    own (declarations.Sem s) x e id = cc
+    own _ x e id = cc
 
     repeated : (before : List Decl) (d : Decl) (x : TaskDecl) → as_task d ≡ Some x → is_repeated before d ≡ list_any (is_task x.id) before
     repeated before (declarations.Task t body) x e = ap (λ (y : TaskDecl). list_any (is_task y.id) before) (some_is e)
-    repeated before (declarations.Sem s) x e = cc
+    repeated before _ x e = cc
 
     range : (d : Decl) (x : TaskDecl) → as_task d ≡ Some x → list_all is_in_range (declaration_lines d) ≡ true → within 1 (Some x.id) 16 ≡ true
     range (declarations.Task t body) x e lines = rw (← some_is e) (task_range t body lines).0
-    range (declarations.Sem s) x e lines = cc
+    range _ x e lines = cc
 
 task_keeps : (d : Decl) (x : TaskDecl) → as_task d ≡ Some x → list_all is_in_range (declaration_lines d) ≡ true → keeps_priority x ≡ true
 task_keeps (declarations.Task t body) x e lines = rw (← some_is e) (task_range t body lines).1
-task_keeps (declarations.Sem s) x e lines = cc
+task_keeps _ x e lines = cc
 
 -- ---- semaphores
 
 abbrev as_semaphore : Decl → Option SemDecl
-as_semaphore (declarations.Task t body) = None
 as_semaphore (declarations.Sem s) = Some s
+as_semaphore _ = None
 
 semaphores_among : (ds : List Decl) → among as_semaphore ds ≡ declared_semaphores ds
 semaphores_among [] = refl
-semaphores_among (declarations.Task t body ∷ ds) = semaphores_among ds
-semaphores_among (declarations.Sem s ∷ ds) = ap (λ ss. s ∷ ss) (semaphores_among ds)
+semaphores_among (declarations.Sem s ∷ ds) = ap (λ xs. s ∷ xs) (semaphores_among ds)
+semaphores_among (_ ∷ ds) = semaphores_among ds
 
 semaphore_range : (s : SemDecl) → list_all is_in_range (declaration_lines (declarations.Sem s)) ≡ true → (within 1 (Some s.id) 16 ≡ true) × (keeps_ranges s ≡ true)
 semaphore_range s e = and_parts (within 1 (Some s.id) 16) (keeps_ranges s) (and_parts (within 1 (Some s.id) 16 && keeps_ranges s) true e).0
@@ -174,20 +178,84 @@ semaphores_are : IsKind semaphore_id as_semaphore is_semaphore
 semaphores_are = record { own = own; repeated = repeated; range = range }
   where
     own : (d : Decl) (x : SemDecl) → as_semaphore d ≡ Some x → (id : ℕ) → is_semaphore id d ≡ (x.id == id)
-    own (declarations.Task t body) x e id = cc
     own (declarations.Sem s) x e id = ap (λ (y : SemDecl). y.id == id) (some_is e)
+    own _ x e id = cc
 
     repeated : (before : List Decl) (d : Decl) (x : SemDecl) → as_semaphore d ≡ Some x → is_repeated before d ≡ list_any (is_semaphore x.id) before
-    repeated before (declarations.Task t body) x e = cc
     repeated before (declarations.Sem s) x e = ap (λ (y : SemDecl). list_any (is_semaphore y.id) before) (some_is e)
+    repeated before _ x e = cc
 
     range : (d : Decl) (x : SemDecl) → as_semaphore d ≡ Some x → list_all is_in_range (declaration_lines d) ≡ true → within 1 (Some x.id) 16 ≡ true
-    range (declarations.Task t body) x e lines = cc
     range (declarations.Sem s) x e lines = rw (← some_is e) (semaphore_range s lines).0
+    range _ x e lines = cc
 
 semaphore_keeps : (d : Decl) (x : SemDecl) → as_semaphore d ≡ Some x → list_all is_in_range (declaration_lines d) ≡ true → keeps_ranges x ≡ true
-semaphore_keeps (declarations.Task t body) x e lines = cc
 semaphore_keeps (declarations.Sem s) x e lines = rw (← some_is e) (semaphore_range s lines).1
+semaphore_keeps _ x e lines = cc
+
+-- ---- event flags
+
+abbrev as_flag : Decl → Option FlgDecl
+as_flag (declarations.Flg f) = Some f
+as_flag _ = None
+
+flags_among : (ds : List Decl) → among as_flag ds ≡ declared_flags ds
+flags_among [] = refl
+flags_among (declarations.Flg f ∷ ds) = ap (λ xs. f ∷ xs) (flags_among ds)
+flags_among (_ ∷ ds) = flags_among ds
+
+flag_range : (f : FlgDecl) → list_all is_in_range (declaration_lines (declarations.Flg f)) ≡ true → (within 1 (Some f.id) 16 ≡ true) × (within 0 (Some f.init) 4294967295 ≡ true)
+flag_range f e = and_parts (within 1 (Some f.id) 16) (within 0 (Some f.init) 4294967295) (and_parts (within 1 (Some f.id) 16 && within 0 (Some f.init) 4294967295) true e).0
+
+flags_are : IsKind flag_id as_flag is_flag
+flags_are = record { own = own; repeated = repeated; range = range }
+  where
+    own : (d : Decl) (x : FlgDecl) → as_flag d ≡ Some x → (id : ℕ) → is_flag id d ≡ (x.id == id)
+    own (declarations.Flg f) x e id = ap (λ (y : FlgDecl). y.id == id) (some_is e)
+    own _ x e id = cc
+
+    repeated : (before : List Decl) (d : Decl) (x : FlgDecl) → as_flag d ≡ Some x → is_repeated before d ≡ list_any (is_flag x.id) before
+    repeated before (declarations.Flg f) x e = ap (λ (y : FlgDecl). list_any (is_flag y.id) before) (some_is e)
+    repeated before _ x e = cc
+
+    range : (d : Decl) (x : FlgDecl) → as_flag d ≡ Some x → list_all is_in_range (declaration_lines d) ≡ true → within 1 (Some x.id) 16 ≡ true
+    range (declarations.Flg f) x e lines = rw (← some_is e) (flag_range f lines).0
+    range _ x e lines = cc
+
+-- ---- data queues
+
+abbrev as_queue : Decl → Option DtqDecl
+as_queue (declarations.Dtq q) = Some q
+as_queue _ = None
+
+queues_among : (ds : List Decl) → among as_queue ds ≡ declared_queues ds
+queues_among [] = refl
+queues_among (declarations.Dtq q ∷ ds) = ap (λ xs. q ∷ xs) (queues_among ds)
+queues_among (_ ∷ ds) = queues_among ds
+
+queue_range : (q : DtqDecl) → list_all is_in_range (declaration_lines (declarations.Dtq q)) ≡ true → (within 1 (Some q.id) 16 ≡ true) × (keeps_capacity q ≡ true)
+queue_range q e =
+    let parts = and_parts (within 1 (Some q.id) 16) (within 0 (Some q.cap) 1024) (and_parts (within 1 (Some q.id) 16 && within 0 (Some q.cap) 1024) true e).0 in
+    (parts.0, (and_parts (nat_le 0 q.cap) (keeps_capacity q) parts.1).1)
+
+queues_are : IsKind queue_id as_queue is_queue
+queues_are = record { own = own; repeated = repeated; range = range }
+  where
+    own : (d : Decl) (x : DtqDecl) → as_queue d ≡ Some x → (id : ℕ) → is_queue id d ≡ (x.id == id)
+    own (declarations.Dtq q) x e id = ap (λ (y : DtqDecl). y.id == id) (some_is e)
+    own _ x e id = cc
+
+    repeated : (before : List Decl) (d : Decl) (x : DtqDecl) → as_queue d ≡ Some x → is_repeated before d ≡ list_any (is_queue x.id) before
+    repeated before (declarations.Dtq q) x e = ap (λ (y : DtqDecl). list_any (is_queue y.id) before) (some_is e)
+    repeated before _ x e = cc
+
+    range : (d : Decl) (x : DtqDecl) → as_queue d ≡ Some x → list_all is_in_range (declaration_lines d) ≡ true → within 1 (Some x.id) 16 ≡ true
+    range (declarations.Dtq q) x e lines = rw (← some_is e) (queue_range q lines).0
+    range _ x e lines = cc
+
+queue_keeps : (d : Decl) (x : DtqDecl) → as_queue d ≡ Some x → list_all is_in_range (declaration_lines d) ≡ true → keeps_capacity x ≡ true
+queue_keeps (declarations.Dtq q) x e lines = rw (← some_is e) (queue_range q lines).1
+queue_keeps _ x e lines = cc
 
 -- ---- all kinds
 
@@ -202,8 +270,11 @@ declarable n good ranges = record {
     ids = new_in semaphore_id semaphore_declared as_semaphore is_semaphore semaphores_are n.decls good.distinct ranges;
     ranges = all_good as_semaphore keeps_ranges semaphore_keeps n.decls ranges;
   });
-  flags = record { ids = refl };
-  queues = record { ids = refl; ranges = refl };
+  flags = rw (← flags_among n.decls) (record { ids = new_in flag_id flag_declared as_flag is_flag flags_are n.decls good.distinct ranges });
+  queues = rw (← queues_among n.decls) (record {
+    ids = new_in queue_id queue_declared as_queue is_queue queues_are n.decls good.distinct ranges;
+    ranges = all_good as_queue keeps_capacity queue_keeps n.decls ranges;
+  });
   cyclic_handlers = record { ids = refl; ranges = refl };
 }
 

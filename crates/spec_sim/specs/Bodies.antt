@@ -14,7 +14,7 @@ use Rattle.spec_script.specs.declared.decl.Line.TheVariants as body_lines
 abbrev pub body_of : List Decl → TaskId → List Line
 body_of [] task = []
 body_of (declarations.Task declared body ∷ ds) task = if declared.id == task.0 then body.lines else body_of ds task
-body_of (declarations.Sem sem ∷ ds) task = body_of ds task
+body_of (_ ∷ ds) task = body_of ds task
 
 abbrev pub request_of : Line → Req
 request_of (body_lines.Call request) = request
