@@ -1,6 +1,7 @@
 use it_types::{
-    Ans, Bytes, CallNo, CepId, Conf, Ctx, E_BOVR, E_NOSPT, E_OK, EndPt, Entry, Er, Event, FlgDecl,
-    List, NoMemory, NodeConf, NodeId, ObjId, PackNo, RepId, Req, SemDecl, TaskDecl, TaskId, Tmo,
+    Ans, Bytes, CallNo, CepId, Conf, Ctx, CycDecl, DtqDecl, E_BOVR, E_NOSPT, E_OK, EndPt, Entry,
+    Er, Event, FlgDecl, List, NoMemory, NodeConf, NodeId, ObjId, PackNo, RepId, Req, SemDecl,
+    TaskDecl, TaskId, Tmo,
 };
 use std::alloc::Global;
 use std::process::Abort;
@@ -181,7 +182,7 @@ fn tasks_are_declared_in_their_ranges(rt: HostRuntime) -> Result<(), Fail> {
         (task(1, 2, true), false),
         (task(2, 0, true), false),
         (task(2, 17, true), false),
-        (task(2, 1, false), false),
+        (task(2, 1, false), true),
     ] {
         expect_task(&rt, rt.alloc(), decl, can)?;
     }
@@ -196,7 +197,7 @@ fn semaphores_are_declared_in_their_ranges(rt: HostRuntime) -> Result<(), Fail> 
         (semaphore(0, false, 0, 1), false),
         (semaphore(17, false, 0, 1), false),
         (semaphore(1, false, 0, 1), false),
-        (semaphore(2, true, 0, 1), false),
+        (semaphore(2, true, 0, 1), true),
         (semaphore(2, false, 2, 1), false),
         (semaphore(2, false, 0, 0), false),
         (semaphore(2, false, 0, 65536), false),
@@ -207,18 +208,63 @@ fn semaphores_are_declared_in_their_ranges(rt: HostRuntime) -> Result<(), Fail> 
 }
 
 #[test]
-fn flags_are_not_declared(rt: HostRuntime) -> Result<(), Fail> {
+fn a_flag_is_declared_once(rt: HostRuntime) -> Result<(), Fail> {
     let mut node = NodeConf::new(rt.alloc(), 0x0a000001);
     expect_opening(&rt, rt.alloc(), &node, true)?;
     let flag = FlgDecl {
-        id: 1,
-        pri: false,
-        many: false,
-        clr: false,
-        init: 0,
+        id: 16,
+        pri: true,
+        many: true,
+        clr: true,
+        init: 1,
     };
     node.flags.push(flag)?;
+    expect_opening(&rt, rt.alloc(), &node, true)?;
+    node.flags.push(flag)?;
     expect_opening(&rt, rt.alloc(), &node, false)?;
+    Ok(())
+}
+
+// A node with this data queue.
+fn expect_queue(rt: &impl Abort, alloc: Global, decl: DtqDecl, can: bool) -> Result<(), NoMemory> {
+    let mut node = NodeConf::new(alloc, 0x0a000001);
+    node.dtqs.push(decl)?;
+    expect_opening(rt, alloc, &node, can)
+}
+
+// A node with this cyclic handler.
+fn expect_handler(
+    rt: &impl Abort,
+    alloc: Global,
+    decl: CycDecl,
+    can: bool,
+) -> Result<(), NoMemory> {
+    let mut node = NodeConf::new(alloc, 0x0a000001);
+    node.cycs.push(decl)?;
+    expect_opening(rt, alloc, &node, can)
+}
+
+#[test]
+fn data_queues_and_cyclic_handlers_are_declared_in_their_ranges(
+    rt: HostRuntime,
+) -> Result<(), Fail> {
+    for (cap, can) in [(0, true), (1024, true), (1025, false)] {
+        let queue = DtqDecl {
+            id: 1,
+            pri: false,
+            cap,
+        };
+        expect_queue(&rt, rt.alloc(), queue, can)?;
+    }
+    for (id, period, can) in [(8, 1, true), (9, 1, false), (8, 0, false)] {
+        let handler = CycDecl {
+            id,
+            period,
+            phase: 0,
+            on: true,
+        };
+        expect_handler(&rt, rt.alloc(), handler, can)?;
+    }
     Ok(())
 }
 
@@ -259,11 +305,18 @@ fn refused_events_change_nothing(rt: HostRuntime) -> Result<(), Fail> {
 }
 
 #[test]
-fn a_call_of_no_part_is_answered_at_once(rt: HostRuntime) -> Result<(), Fail> {
+fn a_call_of_the_kernel_is_answered_with_its_bytes(rt: HostRuntime) -> Result<(), Fail> {
     let alloc = rt.alloc();
     let mut world = two_nodes_opened(&rt, alloc)?;
     take(&rt, alloc, &mut world, call(0, 1, Req::GetTid));
-    expect_answer(&rt, &world, E_NOSPT, b"");
+    expect_answer(&rt, &world, E_OK, b"\0\0\0\x01");
+    Ok(())
+}
+
+#[test]
+fn a_call_of_no_part_is_answered_at_once(rt: HostRuntime) -> Result<(), Fail> {
+    let alloc = rt.alloc();
+    let mut world = two_nodes_opened(&rt, alloc)?;
     let deletes = Req::TcpDelRep { rep: RepId(1) };
     take(&rt, alloc, &mut world, call(0, 1, deletes));
     expect_answer(&rt, &world, E_NOSPT, b"");
