@@ -1,11 +1,14 @@
 -- A step of the schedule's next event: nothing refuses it, and what the play shows after it is what the schedule keeps.
-use Rattle.std.proofs.Common.{◌≡◌, ℕ, ◌+◌, ◌<◌, Bool, true, false, List, length, None, refl, sym, ap, ◌∙◌, inl, inr, arith}
+use Rattle.std.proofs.Common.{◌≡◌, ℕ, suc, ◌+◌, ◌-◌, ◌<◌, Bool, true, false, List, [], ◌∷◌, ◌++◌, length, Some, None, refl, sym, ap, ◌∙◌, inl, inr, arith}
+use Rattle.std.specs.Prelude.{slice_get}
 use Rattle.std.proofs.lemmas.Bool.{cases_Bool, ltb-true}
 use Rattle.it_types.specs.declared.id.NodeId.{NodeId}
 use Rattle.it_types.specs.declared.id.TaskId.{TaskId}
 use Rattle.it_types.specs.declared.id.PackNo.{PackNo}
 use Rattle.it_types.specs.declared.event.Event.{Event}
 use Rattle.it_types.specs.declared.event.Event.TheVariants as events
+use Rattle.it_types.specs.declared.mark.Mark.{Mark}
+use Rattle.it_types.specs.declared.entry.Entry.{Entry}
 use Rattle.spec_script.specs.declared.decl.Decl.{Decl}
 use Rattle.spec_node.specs.PlainNode.{PlainNode, running_task, holds_answer}
 use Rattle.spec_world.specs.PlainWorld.{PlainWorld, step, opened_world}
@@ -16,7 +19,7 @@ use Rattle.spec_world.proofs.Events.{step-ev}
 use Rattle.spec_world.proofs.Appending.{after_more}
 use Rattle.spec_world.proofs.Room.{room_short}
 use Rattle.laws_world.proofs.Counts.{within_length}
-use Rattle.spec_sim.specs.Schedule.{Plan, PlainPlay, node_0, node_1, is_outstanding, runs, task_event, is_over, idle_event, node_event, next, after}
+use Rattle.spec_sim.specs.Schedule.{Plan, PlainPlay, node_0, node_1, is_outstanding, runs, task_event, is_over, idle_event, node_event, next, places_after, delivered_after, after}
 use Rattle.spec_sim.proofs.Turns.{next_of_nodes, next_of_first, next_of_second, next_of_none, next_admitted}
 use Rattle.spec_sim.proofs.Underway.{size_more}
 use Rattle.w_sim.specs.Playing.{Playing, GoesOn, play_of, moved}
@@ -29,6 +32,46 @@ stepped_world h event = after_more (opened_world h.conf) h.log (step (world_of h
 pub moved_play : (plan : Plan) (p : Playing) (event : Event) → play_of (moved plan p event) ≡ (after plan (play_of p) event).0
 unfolding after
 moved_play plan p event = rw (stepped_world p.history event, size_more p.history.log (step (world_of p.history) event).1) refl
+
+-- ---- the entry of a step
+
+last_more : (log : List Entry) (e : Entry) → slice_get (log ++ e ∷ []) (length (log ++ e ∷ []) - 1) ≡ Some e
+last_more [] e = refl
+last_more (x ∷ []) e = refl
+last_more (x ∷ y ∷ ys) e =
+    let at : length (x ∷ y ∷ (ys ++ e ∷ [])) - 1 ≡ suc (length (y ∷ (ys ++ e ∷ [])) - 1) = omega arith in
+    ap (slice_get (x ∷ y ∷ (ys ++ e ∷ []))) at ∙ last_more (y ∷ ys) e
+
+-- there is one
+pub last_is_there : (h after : History) (event : Event) → after ≡ stepped h event → slice_get after.log (length after.log - 1) ≡ None → ⊥
+last_is_there h after event is none =
+    let some : slice_get after.log (length after.log - 1) ≡ Some (step (world_of h) event).1
+    = ap (λ (x : History). slice_get x.log (length x.log - 1)) is ∙ last_more h.log (step (world_of h) event).1 in
+    let no : None ≡ Some (step (world_of h) event).1 = sym none ∙ some in
+    cc
+
+-- by it the tasks move on
+pub moved_by_last : (plan : Plan) (p q : Playing) (event : Event) (e : Entry)
+    → q.history ≡ stepped p.history event
+    → slice_get q.history.log (length q.history.log - 1) ≡ Some e
+    → q.first ≡ places_after node_0 plan.first e.ev e.marks p.first
+    → q.second ≡ places_after node_1 plan.second e.ev e.marks p.second
+    → q.delivered ≡ delivered_after event p.delivered
+    → q ≡ moved plan p event
+moved_by_last plan p q event e history last first second delivered =
+    let same : e ≡ (step (world_of p.history) event).1
+    = some_is (sym last ∙ ap (λ (x : History). slice_get x.log (length x.log - 1)) history ∙ last_more p.history.log (step (world_of p.history) event).1) in
+    let ev : e.ev ≡ event = ap (λ (x : Entry). x.ev) same ∙ step-ev (world_of p.history) event in
+    let marked : e.marks ≡ (step (world_of p.history) event).1.marks = ap (λ (x : Entry). x.marks) same in
+    let one : q.first ≡ (moved plan p event).first = first ∙ ap (λ (v : Event). places_after node_0 plan.first v e.marks p.first) ev ∙ ap (λ (ms : List Mark). places_after node_0 plan.first event ms p.first) marked in
+    let two : q.second ≡ (moved plan p event).second = second ∙ ap (λ (v : Event). places_after node_1 plan.second v e.marks p.second) ev ∙ ap (λ (ms : List Mark). places_after node_1 plan.second event ms p.second) marked in
+    ap (λ (x : History). record q { history = x }) history
+    ∙ ap (λ (x : List ℕ). record q { history = stepped p.history event; first = x }) one
+    ∙ ap (λ (x : List ℕ). record (moved plan p event) { second = x; delivered = q.delivered }) two
+    ∙ ap (λ (n : ℕ). record (moved plan p event) { delivered = n }) delivered
+  where
+    some_is : {x y : Entry} → Some x ≡ Some y → x ≡ y
+    some_is e = cc
 
 -- ---- no refusal
 
