@@ -27,7 +27,7 @@ use Rattle.spec_script.specs.declared.decl.Decl.TheVariants as declarations
 use Rattle.spec_script.specs.declared.script_line.ScriptLine.{ScriptLine}
 use Rattle.spec_script.specs.declared.script_line.ScriptLine.TheVariants.{SecondNode}
 use Rattle.spec_script.specs.Lines.{first_node, second_node, node_line, declaration_lines, head_lines}
-use Rattle.spec_script.specs.Ranges.{within, is_at_most, is_in_range, is_task, is_semaphore, is_flag, is_queue, is_repeated, is_written_declaration, are_distinct, AreGood, IsGood}
+use Rattle.spec_script.specs.Ranges.{within, is_in_range, is_task, is_semaphore, is_flag, is_queue, is_repeated, are_distinct, AreGood, IsGood}
 use Rattle.spec_script.specs.Configuration.{declared_tasks, declared_semaphores, declared_flags, declared_queues, node_conf, conf_of}
 
 -- a place is free exactly where no declaration before has its id

@@ -1,10 +1,13 @@
 -- Words for worked histories: scripts, and entries.
-use Rattle.std.proofs.Common.{ℕ, true, false, List, [], ◌∷◌}
-use Rattle.std.specs.Prelude.{ℤ}
+use Rattle.std.proofs.Common.{ℕ, zero, suc, true, false, List, [], ◌∷◌}
+use Rattle.std.specs.Prelude.{ℤ, pos}
+use Rattle.it_types.specs.declared.id.TaskId.{TaskId}
+use Rattle.it_types.specs.declared.id.ObjId.{ObjId}
 use Rattle.it_types.specs.declared.id.EndPt.{EndPt}
 use Rattle.it_types.specs.declared.context.Ctx.{Ctx}
 use Rattle.it_types.specs.declared.context.Ctx.TheVariants as contexts
 use Rattle.it_types.specs.declared.request.Req.{Req}
+use Rattle.it_types.specs.declared.request.Req.TheVariants as requests
 use Rattle.it_types.specs.declared.timeout.Tmo.{Tmo}
 use Rattle.it_types.specs.declared.timeout.Tmo.TheVariants as timeouts
 use Rattle.it_types.specs.declared.event.Event.{Event}
@@ -37,8 +40,73 @@ script_of decls = script_of_both decls []
 abbrev pub task : ℕ → ℕ → List Line → Decl
 task id priority lines = declarations.Task (record { id = id; pri = priority; act = true }) (record { lines = lines })
 
+abbrev pub dormant_task : ℕ → ℕ → List Line → Decl
+dormant_task id priority lines = declarations.Task (record { id = id; pri = priority; act = false }) (record { lines = lines })
+
 abbrev pub semaphore : ℕ → ℕ → ℕ → Decl
 semaphore id init max = declarations.Sem (record { id = id; pri = false; init = init; max = max })
+
+abbrev pub semaphore_by_priority : ℕ → ℕ → ℕ → Decl
+semaphore_by_priority id init max = declarations.Sem (record { id = id; pri = true; init = init; max = max })
+
+-- a flag on which several tasks may wait, by arrival, and which the end of a wait clears
+abbrev pub clearing_flag : ℕ → ℕ → Decl
+clearing_flag id init = declarations.Flg (record { id = id; pri = false; many = true; clr = true; init = init })
+
+-- a data queue with room for so many items, on which senders wait by arrival
+abbrev pub queue : ℕ → ℕ → Decl
+queue id capacity = declarations.Dtq (record { id = id; pri = false; cap = capacity })
+
+abbrev pub the_task : ℕ → TaskId
+the_task id = record { 0 = id }
+
+abbrev pub object : ℕ → ObjId
+object id = record { 0 = id }
+
+-- ---- calls
+
+abbrev pub activates : ℕ → Req
+activates id = requests.ActTsk (the_task id)
+
+abbrev pub terminates : ℕ → Req
+terminates id = requests.TerTsk (the_task id)
+
+abbrev pub gives_priority : ℕ → ℕ → Req
+gives_priority id priority = requests.ChgPri (the_task id) priority
+
+abbrev pub releases : ℕ → Req
+releases id = requests.RelWai (the_task id)
+
+abbrev pub suspends : ℕ → Req
+suspends id = requests.SusTsk (the_task id)
+
+abbrev pub resumes : ℕ → Req
+resumes id = requests.RsmTsk (the_task id)
+
+abbrev pub sets : ℕ → ℕ → Req
+sets flag bits = requests.SetFlg (object flag) bits
+
+-- for one of the bits of a flag
+abbrev pub waits_for_any : ℕ → ℕ → Tmo → Req
+waits_for_any flag bits tmo = requests.TwaiFlg (object flag) bits false tmo
+
+abbrev pub waits_for_all : ℕ → ℕ → Tmo → Req
+waits_for_all flag bits tmo = requests.TwaiFlg (object flag) bits true tmo
+
+abbrev pub sends_item : ℕ → ℕ → Req
+sends_item queue item = requests.TsndDtq (object queue) item timeouts.Fevr
+
+abbrev pub forces_item : ℕ → ℕ → Req
+forces_item queue item = requests.FsndDtq (object queue) item
+
+abbrev pub receives_item : ℕ → Tmo → Req
+receives_item queue tmo = requests.TrcvDtq (object queue) tmo
+
+abbrev pub sets_time : ℕ → Req
+sets_time time = requests.SetTim time
+
+abbrev pub tells_time : Req
+tells_time = requests.GetTim
 
 abbrev pub waits : ℕ → Req
 waits id = calls.waits id timeouts.Fevr
@@ -93,6 +161,10 @@ delivered number ends marked = entry (events.Deliver (record { 0 = number })) an
 abbrev pub code : ℤ → Ans
 code c = answers.Now (record { 0 = c }) []
 
+-- the answer E_OK with bytes
+abbrev pub told : List ℕ → Ans
+told bytes = answers.Now (record { 0 = pos 0 }) bytes
+
 abbrev pub pends : ℕ → Ans
 pends number = answers.Pends (record { 0 = number })
 
@@ -104,6 +176,9 @@ end number c = end_with number c []
 
 abbrev pub gone : ℕ → Mark
 gone id = marks.Gone (record { 0 = id })
+
+abbrev pub begun : ℕ → Mark
+begun id = marks.Begun (record { 0 = id })
 
 abbrev pub run_mark : ℕ → Mark
 run_mark id = marks.Run (record { 0 = id })
@@ -117,6 +192,11 @@ tick_with node ends marked = entry (events.Tick (record { 0 = node })) answers.Q
 
 abbrev pub tick : ℕ → Entry
 tick node = entry (events.Tick (record { 0 = node })) answers.Quiet [] []
+
+-- so many ticks of each node at which nothing ends, and the entries that follow
+abbrev pub ticks_before : ℕ → List Entry → List Entry
+ticks_before zero rest = rest
+ticks_before (suc n) rest = tick 0 ∷ tick 1 ∷ ticks_before n rest
 
 abbrev pub stop : Entry
 stop = entry events.Stop answers.Quiet [] []

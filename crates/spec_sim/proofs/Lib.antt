@@ -7,3 +7,5 @@ pub mod Overflow
 pub mod Timeout
 pub mod Deadlines
 pub mod Exchange
+pub mod ObjectHistories
+pub mod TaskHistories
