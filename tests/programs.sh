@@ -174,6 +174,15 @@ run sim
 { cat "$work/in" && echo trace && yes '0 task 1 sig_sem 0 = -18' | head -n 1000 && printf '0 task 1 ext_tsk\n gone 1\n run 0\nstop\n'; } >"$work/want"
 expect 'a body of 1,000 lines' 0 "$work/want" ''
 
+# A task that activates itself begins again for good, so its history is full at a million entries, without the stop.
+sed -n 1,4p examples/handoff.itron >"$work/in"
+printf 'task 1 1 act\nact_tsk 0\nend\n' >>"$work/in"
+sed -n 12p examples/handoff.itron >>"$work/in"
+run sim
+{ cat "$work/in" && echo trace && yes "$(printf '0 task 1 act_tsk 0 = 0\n0 task 1 ext_tsk\n gone 1\n begun 1')" | head -n 2000000; } >"$work/want"
+expect 'a history of 1,000,000 entries' 6 "$work/want" 'history too long
+'
+
 # Skipped lines hold any bytes, and an input may have 1,048,576 bytes.
 padded() {
     printf '#' && head -c "$(($1 - 2 - $(wc -c <examples/handoff.itron)))" /dev/zero | tr '\000' '\377' && echo && cat examples/handoff.itron
