@@ -1,0 +1,4 @@
+pub mod PlainPend
+pub mod Slots
+pub mod Ends
+pub mod Outs

@@ -1,0 +1,11 @@
+//! The specification of what all protocols of the network part share: the calls that wait there, who is told of their ends, and
+//! the handlers that are due.
+#![tactic(auto)]
+
+mod answer;
+mod call;
+mod slot;
+
+pub use answer::{NetAnswer, NetEnd};
+pub use call::{NetCall, Who};
+pub use slot::{Part, Slot};
