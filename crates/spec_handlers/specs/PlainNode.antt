@@ -1,6 +1,6 @@
 -- One node with handlers: its kernel and its network part, the answers that its tasks have not taken yet, the handler that has
 -- begun, and the numbers of its calls. It is this project's own.
-use Rattle.std.specs.Prelude.{ℕ, Bool, true, false, List, [], ◌∷◌, Option, None, is_some}
+use Rattle.std.specs.Prelude.{ℕ, Bool, List, Option, None, is_some}
 use Rattle.it_types.specs.declared.id.TaskId.{TaskId}
 use Rattle.it_types.specs.declared.id.ObjId.{ObjId}
 use Rattle.it_types.specs.declared.conf.KConf.{KConf}
@@ -10,6 +10,7 @@ use Rattle.spec_kernel.specs.Ids.{greatest_id}
 use Rattle.spec_kernel.specs.PlainKernel.{PlainKernel}
 use Rattle.spec_kernel.specs.Opening.{opened}
 use Rattle.spec_pend.specs.PlainPend.{opened_pend}
+use Rattle.spec_pend.specs.Ends.{first_due}
 use Rattle.spec_udp.specs.PlainUdps.{UdpSide, opened_udps}
 use Rattle.spec_node.specs.declared.held.Held.{Held}
 use Rattle.spec_node.specs.PlainNode.{running_in}
@@ -28,12 +29,8 @@ running_task n = running_in n.kernel
 abbrev pub holds_answer : PlainNode → TaskId → Bool
 holds_answer n task = is_some (get n.held task.0)
 
-abbrev pub is_any : List Handler → Bool
-is_any [] = false
-is_any (h ∷ hs) = true
-
 abbrev pub has_due : PlainNode → Bool
-has_due n = is_any n.net.pend.due
+has_due n = is_some (first_due n.net.pend.due)
 
 abbrev pub has_begun : PlainNode → Bool
 has_begun n = is_some n.begun
