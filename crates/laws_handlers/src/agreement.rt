@@ -1,0 +1,17 @@
+ghost use Rattle.std.specs.Prelude.{ℕ, List};
+ghost use Rattle.it_types.specs.declared.id.ObjId.{ObjId};
+ghost use Rattle.it_types.specs.declared.conf.KConf.{KConf};
+ghost use Rattle.spec_kernel.specs.Opening.{IsDeclarable};
+ghost use Rattle.spec_handlers.specs.declared.event.NodeEvent.{NodeEvent};
+ghost use Rattle.spec_handlers.specs.PlainNode.{opened_node};
+ghost use Rattle.laws_handlers.specs.Taken.{Along};
+ghost use Rattle.laws_handlers.specs.Agreement.{PartsAgree};
+
+/// Over every list of events of a node with handlers, of which those that aren't admitted change nothing: each task that waits
+/// outside the kernel made the waiting call of the network part that has its number and of whose end it is told, and the other
+/// way round; the calls of the network part stand in the order of their numbers, each at most the last one drawn; no task waits
+/// for a call of which a routine is told; and a task that holds an answer has no call that waits.
+#[tactic(auto, using(crate::proofs::Along::agree_from_opening))]
+pub fn parts_of_a_node_agree()
+    ensures { (conf : KConf) (addr : ℕ) (routines : List ObjId) (events : List NodeEvent) → IsDeclarable conf → Along PartsAgree (opened_node conf addr routines) events }
+{}

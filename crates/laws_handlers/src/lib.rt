@@ -1,0 +1,9 @@
+//! Laws of the specification of one node with handlers, its kernel and its network part together, over every list of events.
+//! Each is the contract of a function without a body of its own.
+#![tactic(auto)]
+
+mod agreement;
+mod running;
+
+pub use agreement::parts_of_a_node_agree;
+pub use running::{runnable_tasks_are_exact, running_tasks_wait_for_nothing};
