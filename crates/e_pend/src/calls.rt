@@ -1,6 +1,6 @@
 //! Searches in the list of the calls that wait.
 
-ghost use Rattle.std.specs.Prelude.{◌≡◌, ◌&&◌, Bool, nat_lt};
+ghost use Rattle.std.specs.Prelude.{◌≡◌, ◌<◌, ◌&&◌, Bool, length, nat_lt, slice_index_or};
 ghost use Rattle.std.specs.List.{list_any, position};
 ghost use Rattle.spec_lists.specs.First.{is_least, take_first};
 ghost use Rattle.spec_pend.specs.declared.call.NetCall.{NetCall as ANetCall};
@@ -105,13 +105,21 @@ pub(crate) fn place_named(
         .position(|call| is_next(calls, call, udp, cep, func))
 }
 
+/// The call at the place where a search has found it.
+pub(crate) fn call_at(calls: &[NetCall], place: usize) -> NetCall
+    requires { place < length calls.now }
+    ensures { result ≡ slice_index_or calls.now place result }
+{
+    calls[place]
+}
+
 /// The number of the call at the place where a search has found it.
 pub(crate) fn number_at(calls: &[NetCall], place: Option<usize>) -> Option<CallNo>
     requires { (f : ANetCall → Bool) × (place ≡ position f calls.now) }
     ensures { (f : ANetCall → Bool) → place ≡ position f calls.now → result ≡ number_found (take_first f calls.now) }
 {
     match place {
-        Some(place) => Some(calls[place].call),
+        Some(place) => Some(call_at(calls, place).call),
         None => None,
     }
 }

@@ -5,7 +5,7 @@ ghost use Rattle.spec_pend.specs.Kept.{IsCep};
 ghost use Rattle.spec_pend.specs.PlainPend.{opened_pend};
 ghost use Rattle.spec_pend.specs.Slots.{accepted, at_slot, named, number_found, numbered};
 
-use crate::calls::{is_taken, number_at, place_at, place_named, place_of};
+use crate::calls::{call_at, is_taken, number_at, place_at, place_named, place_of};
 use crate::due::tell;
 use arrayvec::ArrayVec;
 use it_types::{CallNo, CepId, E_OBJ, E_OK, Er, FnCode, Handler, NoMemory};
@@ -112,7 +112,7 @@ impl Pend {
     {
         match place_of(self.calls.as_slice(), no) {
             Some(place) => {
-                let call = self.calls.as_slice()[place];
+                let call = call_at(self.calls.as_slice(), place);
                 tell(&mut self.due, alloc, call, code, bytes)?;
                 self.calls.remove(place);
                 Ok(Some(call.who))
