@@ -1,15 +1,14 @@
 -- What the code makes of a search is what its definition says: `p` are the calls and handlers of the code, and `named` those that the
 -- contract names.
-use Rattle.std.proofs.Common.{◌≡◌, ℕ, Bool, List, [], ◌++◌, Option, Some, None, get_or, refl, sym, ap, ◌∙◌, subst}
+use Rattle.std.proofs.Common.{◌≡◌, ℕ, Bool, List, ◌++◌, Option, Some, None, get_or, sym, ap, ◌∙◌, subst}
 use Rattle.std.specs.Prelude.{IfSome}
 use Rattle.std.specs.List.{position, remove}
 use Rattle.it_types.specs.declared.id.CallNo.{CallNo}
 use Rattle.it_types.specs.declared.er.Er.{Er}
 use Rattle.it_types.specs.declared.handler.Handler.{Handler}
 use Rattle.spec_lists.specs.First.{take_first}
-use Rattle.spec_lists.proofs.Places.{searched, searched_none}
+use Rattle.spec_lists.proofs.Places.{searched}
 use Rattle.spec_pend.specs.declared.call.NetCall.{NetCall}
-use Rattle.spec_pend.specs.declared.call.Who.{Who}
 use Rattle.spec_pend.specs.PlainPend.{PlainPend}
 use Rattle.spec_pend.specs.Slots.{has_number, number_found, numbered}
 use Rattle.spec_pend.specs.Ends.{ended, ended_found, handlers_for}
@@ -60,6 +59,6 @@ pub number_told : (search : List NetCall → NetCall → Bool) (p named : PlainP
 number_told search p named slice other place told same kept is also found tells =
     let at : place ≡ position (search p.calls) p.calls = subst (λ cs. place ≡ position (search cs) cs) is found in
     let number : told ≡ number_found (take_first (search p.calls) p.calls) =
-      subst (λ cs. place ≡ position (search p.calls) cs → told ≡ number_found (take_first (search p.calls) cs)) also (tells (search p.calls)) at
+    subst (λ cs. place ≡ position (search p.calls) cs → told ≡ number_found (take_first (search p.calls) cs)) also (tells (search p.calls)) at
     in
     subst (λ (q : PlainPend). IsTold search q told) same (record { number = number; same = told_by_number (search p.calls) p.calls told kept.rise number })

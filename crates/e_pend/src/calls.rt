@@ -92,12 +92,7 @@ fn is_next(calls: &[NetCall], call: &NetCall, udp: bool, cep: CepId, func: FnCod
 }
 
 /// The place of the call that a cancel of this function ends first.
-pub(crate) fn place_named(
-    calls: &[NetCall],
-    udp: bool,
-    cep: CepId,
-    func: FnCode,
-) -> Option<usize>
+pub(crate) fn place_named(calls: &[NetCall], udp: bool, cep: CepId, func: FnCode) -> Option<usize>
     ensures { result ≡ position (is_least (is_named udp cep func) part_of calls.now) calls.now }
 {
     calls

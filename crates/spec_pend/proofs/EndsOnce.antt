@@ -1,14 +1,14 @@
 -- A number is accepted once, and its call ends once.
-use Rattle.std.proofs.Common.{◌≡◌, ◌≢◌, ℕ, ◌+◌, ◌<◌, ◌≤◌, Bool, true, false, not, ◌&&◌, List, [], ◌∷◌, Option, Some, None, is_some, refl, sym, ap, ◌∙◌, subst, inl, inr, arith}
+use Rattle.std.proofs.Common.{◌≡◌, ℕ, ◌+◌, ◌<◌, ◌≤◌, Bool, true, false, not, ◌&&◌, List, [], ◌∷◌, Option, Some, None, is_some, refl, sym, ap, inl, inr, arith}
 use Rattle.std.specs.Prelude.{◌==◌, if◌then◌else◌}
-use Rattle.std.proofs.lemmas.Bool.{cases_Bool, cases_eq, eq-eqb, eqb-true, ne_eqb}
+use Rattle.std.proofs.lemmas.Bool.{cases_Bool, eqb-true}
 use Rattle.it_types.specs.declared.id.CallNo.{CallNo}
 use Rattle.it_types.specs.declared.er.Er.{Er}
 use Rattle.it_types.specs.declared.er.TheConstants.{E_OBJ, E_OK}
 use Rattle.spec_lists.specs.Counting.{one_if, times}
 use Rattle.spec_lists.specs.First.{take_first}
-use Rattle.spec_lists.proofs.Counting.{one_if-at_most, one_if-other, one_if-same, times-end, times-found}
-use Rattle.spec_lists.proofs.Firsts.{cases_of_first, none_parts, none_from_parts}
+use Rattle.spec_lists.proofs.Counting.{one_if-other, times-end, times-found}
+use Rattle.spec_lists.proofs.Firsts.{cases_of_first, none_parts}
 use Rattle.spec_pend.specs.declared.slot.Slot.{Slot}
 use Rattle.spec_pend.specs.declared.call.Who.{Who}
 use Rattle.spec_pend.specs.declared.call.NetCall.{NetCall}

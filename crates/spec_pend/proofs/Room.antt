@@ -1,12 +1,11 @@
 -- Calls at parts that differ, of end points from 1 to 16 and two protocols, are at most 96: there is room for one at a part that is free.
-use Rattle.std.proofs.Common.{◌≡◌, ◌≢◌, ℕ, ◌+◌, ◌*◌, ◌-◌, ◌<◌, ◌≤◌, Bool, true, false, List, [], ◌∷◌, length, refl, sym, ap, ◌∙◌, subst, inl, inr, arith}
-use Rattle.std.specs.Prelude.{◌==◌, ◌&&◌}
+use Rattle.std.proofs.Common.{◌≡◌, ℕ, ◌+◌, ◌*◌, ◌-◌, ◌<◌, ◌≤◌, Bool, true, false, List, [], ◌∷◌, length, refl, sym, subst, inl, inr, arith}
+use Rattle.std.specs.Prelude.{◌==◌}
 use Rattle.std.specs.Bool.{beq}
-use Rattle.std.specs.List.{AllByRecursion, list_any}
+use Rattle.std.specs.List.{AllByRecursion}
 use Rattle.std.proofs.lemmas.Bool.{cases_eq, eq-eqb}
-use Rattle.it_types.specs.declared.id.CepId.{CepId}
 use Rattle.spec_lists.specs.Counting.{one_if, times}
-use Rattle.spec_lists.proofs.Counting.{one_if-at_most, one_if-other, one_if-same, room}
+use Rattle.spec_lists.proofs.Counting.{one_if-at_most, one_if-other, room}
 use Rattle.spec_pend.specs.declared.slot.Slot.{Slot}
 use Rattle.spec_pend.specs.declared.slot.Part.{Part}
 use Rattle.spec_pend.specs.declared.slot.Part.TheVariants.{Conn, Send, Recv}

@@ -1,5 +1,5 @@
-//! Tests of the datagrams, of the UDP end points and of the calls that wait. They are a crate of their own, since a crate with tests is proved a second time with
-//! them.
+//! Tests of the datagrams, of the UDP end points, and of the calls that wait. They are a crate of their own, since a crate with tests is
+//! proved a second time with them.
 #![tactic(auto)]
 
 #[cfg(test)]

@@ -29,14 +29,16 @@ fn accept(rt: &impl Abort, pend: &mut Pend, who: Who, what: Slot, no: u32) -> Er
 /// The next due handler is routine 7, told of a call at this part, with this code and these bytes.
 fn expect_routine(rt: &impl Abort, pend: &mut Pend, what: Slot, told: Er, load: &[u8]) {
     match pend.next_handler() {
-        Some(Handler::Cbr {
-            cbr,
-            udp,
-            cep,
-            func,
-            code,
-            bytes,
-        }) => {
+        Some(
+            Handler::Cbr {
+                cbr,
+                udp,
+                cep,
+                func,
+                code,
+                bytes,
+            },
+        ) => {
             assert_eq!(rt; cbr, ObjId(7));
             assert_eq!(rt; (udp, cep, func), (what.udp, what.cep, what.func));
             assert_eq!(rt; code, told);
@@ -66,7 +68,10 @@ fn one_call_waits_at_each_part(rt: HostRuntime) -> Result<(), Fail> {
     assert_eq!(rt; accept(&rt, &mut pend, TASK, same_part, 5), E_OBJ);
     assert_eq!(rt; accept(&rt, &mut pend, ROUTINE, receive, 5), E_OBJ);
     assert_eq!(rt; pend.of(same_part), Some(CallNo(4)));
-    assert_eq!(rt; (pend.of(send), pend.of(over_udp), pend.of(elsewhere)), (None, None, None));
+    assert_eq!(rt;
+        (pend.of(send), pend.of(over_udp), pend.of(elsewhere)),
+        (None, None, None)
+    );
     assert_eq!(rt; accept(&rt, &mut pend, TASK, send, 5), E_OK);
     assert_eq!(rt; accept(&rt, &mut pend, TASK, over_udp, 6), E_OK);
     assert_eq!(rt; accept(&rt, &mut pend, TASK, elsewhere, 7), E_OK);
@@ -81,11 +86,32 @@ fn one_call_waits_at_each_part(rt: HostRuntime) -> Result<(), Fail> {
 fn a_cancel_of_all_goes_by_parts(rt: HostRuntime) -> Result<(), Fail> {
     let mut pend = Pend::open(rt.alloc())?;
     let cep = CepId(16);
-    accept(&rt, &mut pend, TASK, at(false, 16, Part::Recv, FnCode::RcvDat), 1);
-    accept(&rt, &mut pend, TASK, at(false, 16, Part::Send, FnCode::GetBuf), 2);
-    accept(&rt, &mut pend, TASK, at(false, 16, Part::Conn, FnCode::ClsCep), 3);
+    accept(
+        &rt,
+        &mut pend,
+        TASK,
+        at(false, 16, Part::Recv, FnCode::RcvDat),
+        1,
+    );
+    accept(
+        &rt,
+        &mut pend,
+        TASK,
+        at(false, 16, Part::Send, FnCode::GetBuf),
+        2,
+    );
+    accept(
+        &rt,
+        &mut pend,
+        TASK,
+        at(false, 16, Part::Conn, FnCode::ClsCep),
+        3,
+    );
     for no in [3, 2, 1] {
-        assert_eq!(rt; pend.cancel_first(false, cep, FnCode::All), Some(CallNo(no)));
+        assert_eq!(rt;
+            pend.cancel_first(false, cep, FnCode::All),
+            Some(CallNo(no))
+        );
         assert_eq!(rt; pend.end(rt.alloc(), CallNo(no), E_RLWAI, b"")?, Some(TASK));
     }
     assert_eq!(rt; pend.cancel_first(false, cep, FnCode::All), None);
@@ -95,9 +121,27 @@ fn a_cancel_of_all_goes_by_parts(rt: HostRuntime) -> Result<(), Fail> {
 #[test]
 fn a_cancel_names_its_function_alone(rt: HostRuntime) -> Result<(), Fail> {
     let mut pend = Pend::open(rt.alloc())?;
-    accept(&rt, &mut pend, TASK, at(false, 1, Part::Conn, FnCode::ConCep), 1);
-    accept(&rt, &mut pend, TASK, at(false, 1, Part::Recv, FnCode::RcvDat), 2);
-    accept(&rt, &mut pend, TASK, at(true, 1, Part::Recv, FnCode::UdpRcv), 3);
+    accept(
+        &rt,
+        &mut pend,
+        TASK,
+        at(false, 1, Part::Conn, FnCode::ConCep),
+        1,
+    );
+    accept(
+        &rt,
+        &mut pend,
+        TASK,
+        at(false, 1, Part::Recv, FnCode::RcvDat),
+        2,
+    );
+    accept(
+        &rt,
+        &mut pend,
+        TASK,
+        at(true, 1, Part::Recv, FnCode::UdpRcv),
+        3,
+    );
     let named = [
         (false, 1, FnCode::RcvDat, Some(CallNo(2))),
         (false, 1, FnCode::ConCep, Some(CallNo(1))),
@@ -140,7 +184,10 @@ fn a_routine_is_due_after_the_end(rt: HostRuntime) -> Result<(), Fail> {
     assert_eq!(rt; accept(&rt, &mut pend, ROUTINE, send, 2), E_OK);
     assert!(rt; !pend.has_due());
     assert_eq!(rt; pend.end(rt.alloc(), CallNo(2), E_DLT, b"")?, Some(ROUTINE));
-    assert_eq!(rt; pend.end(rt.alloc(), CallNo(1), E_OK, b"\x00\xff")?, Some(ROUTINE));
+    assert_eq!(rt;
+        pend.end(rt.alloc(), CallNo(1), E_OK, b"\x00\xff")?,
+        Some(ROUTINE)
+    );
     assert_eq!(rt; pend.end(rt.alloc(), CallNo(1), E_OK, b"\x00\xff")?, None);
     assert!(rt; pend.has_due());
     expect_routine(&rt, &mut pend, send, E_DLT, b"");
@@ -156,7 +203,10 @@ fn handlers_are_due_in_their_order(rt: HostRuntime) -> Result<(), Fail> {
     let receive = at(true, 1, Part::Recv, FnCode::UdpRcv);
     assert_eq!(rt; accept(&rt, &mut pend, ROUTINE, receive, 1), E_OK);
     pend.add_handler(Handler::Cyc(ObjId(8)))?;
-    assert_eq!(rt; pend.end(rt.alloc(), CallNo(1), E_TMOUT, b"")?, Some(ROUTINE));
+    assert_eq!(rt;
+        pend.end(rt.alloc(), CallNo(1), E_TMOUT, b"")?,
+        Some(ROUTINE)
+    );
     pend.add_handler(Handler::Cyc(ObjId(2)))?;
     pend.add_handler(Handler::Cyc(ObjId(8)))?;
     assert!(rt; pend.is_cyclic_due(ObjId(8)) && pend.is_cyclic_due(ObjId(2)));
@@ -190,7 +240,10 @@ fn ninety_six_calls_wait_at_once(rt: HostRuntime) -> Result<(), Fail> {
     }
     let first = at(false, 1, Part::Conn, FnCode::AcpCep);
     let last = at(true, 16, Part::Recv, FnCode::UdpRcv);
-    assert_eq!(rt; (pend.of(first), pend.of(last)), (Some(CallNo(6)), Some(CallNo(101))));
+    assert_eq!(rt;
+        (pend.of(first), pend.of(last)),
+        (Some(CallNo(6)), Some(CallNo(101)))
+    );
     for no in 6..102 {
         assert_eq!(rt; pend.end(rt.alloc(), CallNo(no), E_DLT, b"")?, Some(TASK));
     }
