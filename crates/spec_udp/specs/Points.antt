@@ -1,5 +1,5 @@
 -- What stands at a UDP end point, if there is one, and how it changes (ITRON TCP/IP API, chapter on UDP).
-use Rattle.std.specs.Prelude.{ℕ, Bool, true, false, List, [], ◌∷◌, ◌++◌, Option, Some, None, ◌==◌}
+use Rattle.std.specs.Prelude.{ℕ, Bool, false, List, [], ◌∷◌, ◌++◌, Option, Some, None, ◌==◌}
 use Rattle.it_types.specs.declared.id.ObjId.{ObjId}
 use Rattle.spec_net.specs.declared.point.Received.{Received}
 use Rattle.spec_udp.specs.declared.point.Sending.{Sending}

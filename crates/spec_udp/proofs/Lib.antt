@@ -1,0 +1,6 @@
+pub mod Settling
+pub mod Changes
+pub mod RowCases
+pub mod NonBlocking
+pub mod ArrivalCases
+pub mod FreePorts
