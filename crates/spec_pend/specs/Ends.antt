@@ -1,11 +1,12 @@
 -- The ends of calls, and the callback routines that are told of them (ITRON TCP/IP API, callback routines; that a routine begins
 -- only after the event that makes it due is this project's own).
-use Rattle.std.specs.Prelude.{ℕ, List, [], ◌∷◌, ◌++◌, Option, Some, None}
+use Rattle.std.specs.Prelude.{◌≡◌, ℕ, Bool, false, ◌==◌, List, [], ◌∷◌, ◌++◌, Option, Some, None}
+use Rattle.std.specs.List.{list_any}
 use Rattle.it_types.specs.declared.id.ObjId.{ObjId}
 use Rattle.it_types.specs.declared.id.CallNo.{CallNo}
 use Rattle.it_types.specs.declared.er.Er.{Er}
 use Rattle.it_types.specs.declared.handler.Handler.{Handler}
-use Rattle.it_types.specs.declared.handler.Handler.TheVariants.{Cbr}
+use Rattle.it_types.specs.declared.handler.Handler.TheVariants.{Cyc, Cbr}
 use Rattle.it_types.specs.declared.mark.Mark.{Mark}
 use Rattle.it_types.specs.declared.mark.Mark.TheVariants as marks
 use Rattle.spec_pend.specs.declared.slot.Slot.{Slot}
@@ -73,6 +74,12 @@ ended_found p (Some found) code bytes = (pend_after p found code bytes, Some fou
 abbrev pub ended : PlainPend → CallNo → Er → List ℕ → PlainPend × Option Who
 ended p number code bytes = ended_found p (numbered p number) code bytes
 
+-- where a routine is told, one handler more is due, last, with this code and these bytes; else none
+abbrev pub AddsDue : List Handler → List Handler → Option Who → Er → List ℕ → Type 0
+AddsDue before after None code bytes = after ≡ before
+AddsDue before after (Some (whos.Task t)) code bytes = after ≡ before
+AddsDue before after (Some (whos.Callback t cbr)) code bytes = (slot : Slot) × (after ≡ before ++ routine_told cbr slot code bytes ∷ [])
+
 -- ---- the handlers that are due
 
 abbrev pub first_due : List Handler → Option Handler
@@ -82,3 +89,15 @@ first_due (h ∷ hs) = Some h
 abbrev pub later_due : List Handler → List Handler
 later_due [] = []
 later_due (h ∷ hs) = hs
+
+-- the first is due no longer
+abbrev pub without_first_due : PlainPend → PlainPend
+without_first_due p = record p { due = later_due p.due }
+
+-- it is this cyclic handler
+abbrev pub is_cyclic : ObjId → Handler → Bool
+is_cyclic cyc (Cyc c) = c.0 == cyc.0
+is_cyclic cyc (Cbr cbr udp cep func code bytes) = false
+
+abbrev pub is_cyclic_due : ObjId → PlainPend → Bool
+is_cyclic_due cyc p = list_any (is_cyclic cyc) p.due

@@ -1,6 +1,6 @@
 -- The calls of a node's network part that wait, and the handlers that are due. The lists are this project's own; the calls, and
 -- the callback routines that are told of them, are those of the ITRON TCP/IP API specification.
-use Rattle.std.specs.Prelude.{ℕ, ◌≤◌, All, List, []}
+use Rattle.std.specs.Prelude.{ℕ, List, []}
 use Rattle.it_types.specs.declared.handler.Handler.{Handler}
 use Rattle.it_types.specs.declared.mark.Mark.{Mark}
 use Rattle.spec_pend.specs.declared.call.NetCall.{NetCall}

@@ -10,8 +10,15 @@ pub enum Who {
     Callback(TaskId, ObjId),
 }
 
+impl Default for Who {
+    /// Nobody.
+    fn default() -> Self {
+        Who::Task(TaskId(0))
+    }
+}
+
 /// A call of the network part that waits. Its arguments are kept at its end point.
-#[derive(Clone, Copy, Debug, PartialEq, Eq)]
+#[derive(Clone, Copy, Debug, Default, PartialEq, Eq)]
 pub struct NetCall {
     pub call: CallNo,
     pub who: Who,

@@ -4,8 +4,10 @@
 
 mod answer;
 mod call;
+mod once;
 mod slot;
 
 pub use answer::{NetAnswer, NetEnd};
 pub use call::{NetCall, Who};
+pub use once::a_call_ends_once;
 pub use slot::{Part, Slot};

@@ -19,3 +19,15 @@ pub struct Slot {
     pub part: Part,
     pub func: FnCode,
 }
+
+impl Default for Slot {
+    /// The connection of no end point.
+    fn default() -> Self {
+        Slot {
+            udp: false,
+            cep: CepId(0),
+            part: Part::Conn,
+            func: FnCode::All,
+        }
+    }
+}

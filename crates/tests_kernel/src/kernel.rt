@@ -102,9 +102,22 @@ fn declared(alloc: Global) -> Result<KConf, NoMemory>
     })
 }
 
-fn opened(alloc: Global) -> Result<Kernel, NoMemory> {
+/// A kernel that is dropped by one call. By itself it is dropped part by part in each function that holds it.
+struct Owned {
+    kernel: Kernel,
+}
+
+impl Drop for Owned {
+    fn drop(self) {
+        let Owned { kernel: _ } = self;
+    }
+}
+
+fn opened(alloc: Global) -> Result<Owned, NoMemory> {
     let conf = declared(alloc)?;
-    Kernel::open(alloc, &conf)
+    Ok(Owned {
+        kernel: Kernel::open(alloc, &conf)?,
+    })
 }
 
 /// What a call is told to be answered.
@@ -263,6 +276,17 @@ fn expect_calls(
     }
 }
 
+/// Each call comes to what is told of it, as above, of a kernel right after its opening and under numbers from 1 on.
+fn expect_from_the_start(
+    rt: &impl Abort,
+    alloc: Global,
+    calls: &[(u32, KReq, Told, u32)],
+) -> Result<(), NoMemory> {
+    let mut owned = opened(alloc)?;
+    expect_calls(rt, &mut owned.kernel, 1, calls);
+    Ok(())
+}
+
 /// At the next tick these handlers come due.
 fn expect_tick(rt: &impl Abort, kernel: &mut Kernel, handlers: &[ObjId]) {
     assert!(rt; kernel.now() < 1 << 60);
@@ -342,7 +366,6 @@ const EXITS: Told = Told {
 
 #[test]
 fn a_handler_frees_the_more_urgent_task(rt: HostRuntime) -> Result<(), Fail> {
-    let mut kernel = opened(rt.alloc())?;
     let calls = [
         (2, wait_for_semaphore(Tmo::Fevr), WAITS, 1),
         (0, begin(3), BEGINS, 3),
@@ -357,13 +380,12 @@ fn a_handler_frees_the_more_urgent_task(rt: HostRuntime) -> Result<(), Fail> {
         (0, SIGNAL, coded(E_QOVR), 2),
         (2, wait_for_semaphore(Tmo::Fevr), DONE, 2),
     ];
-    expect_calls(&rt, &mut kernel, 1, &calls);
+    expect_from_the_start(&rt, rt.alloc(), &calls)?;
     Ok(())
 }
 
 #[test]
 fn a_cleared_flag_frees_the_first(rt: HostRuntime) -> Result<(), Fail> {
-    let mut kernel = opened(rt.alloc())?;
     let calls = [
         (2, wait_for_flag(CLEARED, 3, false, Tmo::Fevr), WAITS, 1),
         (1, wait_for_flag(CLEARED, 2, true, Tmo::Fevr), WAITS, 0),
@@ -383,13 +405,12 @@ fn a_cleared_flag_frees_the_first(rt: HostRuntime) -> Result<(), Fail> {
             2,
         ),
     ];
-    expect_calls(&rt, &mut kernel, 1, &calls);
+    expect_from_the_start(&rt, rt.alloc(), &calls)?;
     Ok(())
 }
 
 #[test]
 fn a_flag_that_stays_frees_both(rt: HostRuntime) -> Result<(), Fail> {
-    let mut kernel = opened(rt.alloc())?;
     let both = Told {
         ends: [
             ended_with(1, 2, [0, 0, 0, 3]),
@@ -418,13 +439,12 @@ fn a_flag_that_stays_frees_both(rt: HostRuntime) -> Result<(), Fail> {
             2,
         ),
     ];
-    expect_calls(&rt, &mut kernel, 1, &calls);
+    expect_from_the_start(&rt, rt.alloc(), &calls)?;
     Ok(())
 }
 
 #[test]
 fn sender_and_receiver_meet(rt: HostRuntime) -> Result<(), Fail> {
-    let mut kernel = opened(rt.alloc())?;
     let handed = Told {
         ends: [ended(3, 2, E_OK), None],
         ..worded([0, 0, 0, 7])
@@ -457,13 +477,12 @@ fn sender_and_receiver_meet(rt: HostRuntime) -> Result<(), Fail> {
             2,
         ),
     ];
-    expect_calls(&rt, &mut kernel, 1, &calls);
+    expect_from_the_start(&rt, rt.alloc(), &calls)?;
     Ok(())
 }
 
 #[test]
 fn a_handler_wakes_a_sleeper(rt: HostRuntime) -> Result<(), Fail> {
-    let mut kernel = opened(rt.alloc())?;
     let calls = [
         (2, KReq::TslpTsk { tmo: Tmo::Ms(9) }, WAITS, 1),
         (0, wake_up(2), ends(ended(1, 2, E_OK)), 2),
@@ -479,13 +498,14 @@ fn a_handler_wakes_a_sleeper(rt: HostRuntime) -> Result<(), Fail> {
             2,
         ),
     ];
-    expect_calls(&rt, &mut kernel, 1, &calls);
+    expect_from_the_start(&rt, rt.alloc(), &calls)?;
     Ok(())
 }
 
 #[test]
 fn calls_of_one_tick_end_by_their_numbers(rt: HostRuntime) -> Result<(), Fail> {
-    let mut kernel = opened(rt.alloc())?;
+    let mut owned = opened(rt.alloc())?;
+    let kernel = &mut owned.kernel;
     let less_urgent = KReq::ChgPri {
         task: TaskId(2),
         pri: 6,
@@ -497,42 +517,44 @@ fn calls_of_one_tick_end_by_their_numbers(rt: HostRuntime) -> Result<(), Fail> {
         (3, less_urgent, DONE, 3),
         (3, KReq::ExtTsk, EXITS, 0),
     ];
-    expect_calls(&rt, &mut kernel, 1, &calls);
-    expect_tick(&rt, &mut kernel, &[]);
-    expect_due(&rt, &mut kernel, None, 0);
-    expect_tick(&rt, &mut kernel, &[ObjId(8)]);
-    expect_due(&rt, &mut kernel, ended(1, 2, E_TMOUT), 2);
-    expect_due(&rt, &mut kernel, ended(2, 1, E_OK), 2);
-    expect_due(&rt, &mut kernel, None, 2);
-    expect_calls(&rt, &mut kernel, 6, &[(0, SIGNAL, DONE, 2)]);
+    expect_calls(&rt, kernel, 1, &calls);
+    expect_tick(&rt, kernel, &[]);
+    expect_due(&rt, kernel, None, 0);
+    expect_tick(&rt, kernel, &[ObjId(8)]);
+    expect_due(&rt, kernel, ended(1, 2, E_TMOUT), 2);
+    expect_due(&rt, kernel, ended(2, 1, E_OK), 2);
+    expect_due(&rt, kernel, None, 2);
+    expect_calls(&rt, kernel, 6, &[(0, SIGNAL, DONE, 2)]);
     Ok(())
 }
 
 #[test]
 fn cyclic_handlers_come_due(rt: HostRuntime) -> Result<(), Fail> {
-    let mut kernel = opened(rt.alloc())?;
+    let mut owned = opened(rt.alloc())?;
+    let kernel = &mut owned.kernel;
     let start = KReq::StaCyc { cyc: ObjId(1) };
     let stop = KReq::StpCyc { cyc: ObjId(8) };
     expect_calls(
         &rt,
-        &mut kernel,
+        kernel,
         1,
         &[(0, start, coded(E_CTX), 2), (2, start, DONE, 2)],
     );
-    expect_tick(&rt, &mut kernel, &[]);
-    expect_tick(&rt, &mut kernel, &[ObjId(8)]);
-    expect_tick(&rt, &mut kernel, &[]);
-    expect_tick(&rt, &mut kernel, &[ObjId(1), ObjId(8)]);
-    expect_calls(&rt, &mut kernel, 1, &[(2, stop, DONE, 2)]);
-    expect_tick(&rt, &mut kernel, &[]);
-    expect_tick(&rt, &mut kernel, &[]);
-    expect_tick(&rt, &mut kernel, &[ObjId(1)]);
+    expect_tick(&rt, kernel, &[]);
+    expect_tick(&rt, kernel, &[ObjId(8)]);
+    expect_tick(&rt, kernel, &[]);
+    expect_tick(&rt, kernel, &[ObjId(1), ObjId(8)]);
+    expect_calls(&rt, kernel, 1, &[(2, stop, DONE, 2)]);
+    expect_tick(&rt, kernel, &[]);
+    expect_tick(&rt, kernel, &[]);
+    expect_tick(&rt, kernel, &[ObjId(1)]);
     Ok(())
 }
 
 #[test]
 fn a_handler_may_not_wait(rt: HostRuntime) -> Result<(), Fail> {
-    let mut kernel = opened(rt.alloc())?;
+    let mut owned = opened(rt.alloc())?;
+    let kernel = &mut owned.kernel;
     let refused = coded(E_CTX);
     let calls = [
         (0, SIGNAL, DONE, 2),
@@ -551,27 +573,28 @@ fn a_handler_may_not_wait(rt: HostRuntime) -> Result<(), Fail> {
             2,
         ),
     ];
-    expect_calls(&rt, &mut kernel, 1, &calls);
+    expect_calls(&rt, kernel, 1, &calls);
     assert!(rt; kernel.is_above(CallNo(1)));
     Ok(())
 }
 
 #[test]
 fn only_a_blocked_task_is_unblocked(rt: HostRuntime) -> Result<(), Fail> {
-    let mut kernel = opened(rt.alloc())?;
-    expect_calls(&rt, &mut kernel, 1, &[(2, SLEEP, WAITS, 1)]);
+    let mut owned = opened(rt.alloc())?;
+    let kernel = &mut owned.kernel;
+    expect_calls(&rt, kernel, 1, &[(2, SLEEP, WAITS, 1)]);
     assert!(rt; !kernel.unblock(TaskId(2)));
     assert_eq!(rt; kernel.running(), TaskId(1));
-    block(&rt, &mut kernel, 1, 0, 2);
+    block(&rt, kernel, 1, 0, 2);
     assert_eq!(rt; kernel.running(), TaskId(0));
     assert!(rt; kernel.unblock(TaskId(1)));
     assert_eq!(rt; kernel.running(), TaskId(1));
     assert!(rt; !kernel.unblock(TaskId(1)));
-    expect_tick(&rt, &mut kernel, &[]);
-    expect_due(&rt, &mut kernel, None, 1);
+    expect_tick(&rt, kernel, &[]);
+    expect_due(&rt, kernel, None, 1);
     expect_calls(
         &rt,
-        &mut kernel,
+        kernel,
         3,
         &[(0, wake_up(2), ends(ended(1, 2, E_OK)), 2)],
     );
@@ -580,12 +603,13 @@ fn only_a_blocked_task_is_unblocked(rt: HostRuntime) -> Result<(), Fail> {
 
 #[test]
 fn a_blocked_task_waits_no_longer_than_told(rt: HostRuntime) -> Result<(), Fail> {
-    let mut kernel = opened(rt.alloc())?;
-    block(&rt, &mut kernel, 2, 1, 1);
-    expect_calls(&rt, &mut kernel, 2, &[(0, wake_up(2), DONE, 1)]);
-    expect_tick(&rt, &mut kernel, &[]);
-    expect_due(&rt, &mut kernel, None, 1);
-    expect_tick(&rt, &mut kernel, &[ObjId(8)]);
+    let mut owned = opened(rt.alloc())?;
+    let kernel = &mut owned.kernel;
+    block(&rt, kernel, 2, 1, 1);
+    expect_calls(&rt, kernel, 2, &[(0, wake_up(2), DONE, 1)]);
+    expect_tick(&rt, kernel, &[]);
+    expect_due(&rt, kernel, None, 1);
+    expect_tick(&rt, kernel, &[ObjId(8)]);
     let late = End {
         call: 1,
         task: 2,
@@ -593,7 +617,7 @@ fn a_blocked_task_waits_no_longer_than_told(rt: HostRuntime) -> Result<(), Fail>
         word: None,
         outside: true,
     };
-    expect_due(&rt, &mut kernel, Some(late), 2);
-    expect_due(&rt, &mut kernel, None, 2);
+    expect_due(&rt, kernel, Some(late), 2);
+    expect_due(&rt, kernel, None, 2);
     Ok(())
 }

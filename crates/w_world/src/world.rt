@@ -26,7 +26,7 @@ const ENTRY_LIMIT: usize = 1000000;
 const SIZE_LIMIT: u64 = 268435456;
 
 /// Two nodes, the packets that they sent, and the history of all that happened.
-#[derive(Debug, Drop)]
+#[derive(Debug)]
 pub struct World {
     conf: Conf,
     nodes: Nodes,
@@ -46,6 +46,21 @@ impl Model for World {
     ghost view = { λ w. record { conf = w.conf; log = w.log; ended = w.ended } };
 
     ghost invariant = { λ w. Kept w.conf w.nodes w.log w.sent.items w.packets w.size w.ended };
+}
+
+/// A world is dropped by one call. A derived drop would be that of each part in each function that holds a world.
+impl Drop for World {
+    fn drop(self) {
+        let World {
+            conf: _,
+            nodes: _,
+            log: _,
+            sent: _,
+            packets: _,
+            size: _,
+            ended: _,
+        } = self;
+    }
 }
 
 fn ends_with_stop(log: &[Entry]) -> bool
