@@ -6,3 +6,8 @@ pub mod Holders
 pub mod Joining
 pub mod Along
 pub mod RunsFree
+pub mod Alike
+pub mod Keeping
+pub mod KeepingPoints
+pub mod KeepingRows
+pub mod Rest

@@ -1,3 +1,5 @@
 pub mod Taken
 pub mod Agreement
 pub mod Running
+pub mod EndPoints
+pub mod AtRest

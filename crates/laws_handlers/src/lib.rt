@@ -3,7 +3,11 @@
 #![tactic(auto)]
 
 mod agreement;
+mod at_rest;
+mod end_points;
 mod running;
 
 pub use agreement::parts_of_a_node_agree;
+pub use at_rest::no_call_of_a_node_waits_too_long;
+pub use end_points::end_points_are_kept;
 pub use running::{runnable_tasks_are_exact, running_tasks_wait_for_nothing};
