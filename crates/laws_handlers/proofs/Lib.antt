@@ -5,6 +5,7 @@ pub mod TakingOver
 pub mod Holders
 pub mod Joining
 pub mod Along
+pub mod Agreeing
 pub mod RunsFree
 pub mod Alike
 pub mod Keeping
