@@ -1,4 +1,4 @@
-ghost use Rattle.std.specs.Prelude.{◌≡◌, ◌↔◌, ◌<◌, IfOk, IfSome, None, OnErr, OnOk, true};
+ghost use Rattle.std.specs.Prelude.{◌≡◌, ◌↔◌, ◌<◌, IfOk, IfSome, IsOk, None, OnErr, OnOk, true};
 ghost use Rattle.std.specs.List.{position};
 ghost use Rattle.spec_pend.specs.Ends.{AddsDue, ended};
 ghost use Rattle.spec_pend.specs.Kept.{IsCep};
@@ -39,9 +39,10 @@ impl Model for Pend {
 }
 
 impl Pend {
-    /// No call waits, and no handler is due.
+    /// No call waits, and no handler is due. This takes no memory yet, so it succeeds.
     pub fn open(alloc: Global) -> Result<Pend, NoMemory>
-        ensures { IfOk result (λ p. p ≡ opened_pend) }
+        ensures opened { IfOk result (λ p. p ≡ opened_pend) }
+        ensures succeeds { IsOk result }
     {
         Ok(Pend {
             last: 0,
