@@ -67,7 +67,8 @@ receive_part Conn e = cc
 receive_part Send e = cc
 receive_part Recv e = refl
 
-three : (a b c : Bool) → ((beq a true && b) && c) ≡ true → (a ≡ true) × (b ≡ true) × (c ≡ true)
+-- what a search at a part of an end point asks
+pub three : (a b c : Bool) → ((beq a true && b) && c) ≡ true → (a ≡ true) × (b ≡ true) × (c ≡ true)
 three true true true e = (refl, refl, refl)
 three true true false e = cc
 three true false c e = cc

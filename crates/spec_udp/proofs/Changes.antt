@@ -90,3 +90,15 @@ nothing_taken (Some p) e = ap (λ q. Some (record p { queue = q })) (ap rest_of 
 
 pub taken_nowhere : (points : List (Option UdpPoint)) (at : ℕ) → queue_of (get points at) ≡ [] → change points at without_oldest ≡ points
 taken_nowhere points at e = ap (λ o. slice_set points at o) (nothing_taken (get points at) e) ∙ set-get_or points at None
+
+-- what a change leaves alone at its end point is there as before
+pub same_at : {V : Type 0} (view : Option UdpPoint → V) (points : List (Option UdpPoint)) (at : ℕ) (f : Option UdpPoint → Option UdpPoint)
+    → view (f (get points at)) ≡ view (get points at)
+    → view (get (change points at f) at) ≡ view (get points at)
+same_at view points at f same = elim (cases_lt at (length points)) [
+  | inl inside ↦ ap view (get_or-set_same points at (f (get points at)) None inside) ∙ same
+  | inr past ↦ (
+      let after : get (change points at f) at ≡ None = get_or_past (change points at f) at None (subst (λ n. n ≤ at) (sym (length-set points at (f (get points at)))) past) in
+      ap view (after ∙ sym (get_or_past points at None past))
+      )
+]

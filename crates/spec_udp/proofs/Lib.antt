@@ -1,6 +1,5 @@
 pub mod Settling
 pub mod Changes
 pub mod RowCases
-pub mod NonBlocking
 pub mod ArrivalCases
 pub mod FreePorts
