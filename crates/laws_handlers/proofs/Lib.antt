@@ -12,3 +12,4 @@ pub mod Keeping
 pub mod KeepingPoints
 pub mod KeepingRows
 pub mod Rest
+pub mod Dues
