@@ -16,15 +16,17 @@ use Rattle.spec_pend.specs.Kept.{EachBefore, IsBelow, AreApart, Rise, PendKept}
 use Rattle.spec_pend.proofs.Found.{all_more}
 use Rattle.spec_handlers.specs.declared.event.NodeEvent.{NodeEvent}
 use Rattle.spec_handlers.specs.PlainNode.{PlainNode, opened_node}
+use Rattle.laws_kernel.proofs.Numbers.{opened_numbered}
 use Rattle.laws_node.specs.Agreement.{times}
 use Rattle.laws_node.proofs.Rising.{AllAbove, AllBelow, Rises}
 use Rattle.laws_handlers.specs.Taken.{taken, Along}
 use Rattle.laws_handlers.specs.Agreement.{PartsAgree}
 use Rattle.laws_handlers.specs.EndPoints.{IsReceive}
-use Rattle.laws_handlers.proofs.NetMoves.{call_number, routine_calls_apart}
+use Rattle.laws_handlers.proofs.NetMoves.{call_number}
 use Rattle.laws_handlers.proofs.Alike.{all_none}
 use Rattle.laws_handlers.proofs.KeepingRows.{only_receives, at_most_one}
 use Rattle.laws_handlers.proofs.Along.{Holds, taken_holds, opening_holds}
+use Rattle.laws_handlers.proofs.Numbered.{NodeNumbers, taken_numbers}
 use Rattle.laws_handlers.proofs.Rest.{Rests, taken_rests, opening_rests}
 
 -- ---- the calls stand in order
@@ -70,6 +72,7 @@ apart (c ∷ cs) h one = (all_more (λ d. IsReceive d × (is_at true c.slot.cep 
 pub record Good (n : PlainNode) : Type 0 where
   pub holds : Holds n
   pub rests : Rests n
+  pub numbers : NodeNumbers n
 
 calls_kept : (n : PlainNode) → Good n → PendKept n.net.pend
 calls_kept n g = record {
@@ -84,7 +87,7 @@ agree n g = record {
   same = g.holds.sound.same;
   in_order = calls_kept n g;
   drawn = g.holds.sound.drawn;
-  routines = λ m i some. omega (arith, g.holds.sound.same m i, routine_calls_apart m i n.net.pend.calls g.holds.sound.rises some);
+  numbers = g.numbers.once;
   standing = g.holds.sound.stands;
   holders = g.holds.free;
 }
@@ -92,10 +95,10 @@ agree n g = record {
 -- what follows from it holds before and after each event
 pub good_along : (P : PlainNode → Type 0) → ((n : PlainNode) → Good n → P n) → (n : PlainNode) (es : List NodeEvent) → Good n → Along P n es
 good_along P follows n [] g = follows n g
-good_along P follows n (e ∷ es) g = (follows n g, good_along P follows (taken n e) es (record { holds = taken_holds n e g.holds; rests = taken_rests n e g.rests }))
+good_along P follows n (e ∷ es) g = (follows n g, good_along P follows (taken n e) es (record { holds = taken_holds n e g.holds; rests = taken_rests n e g.rests; numbers = taken_numbers n e g.holds g.numbers }))
 
 pub opening_good : (conf : KConf) (addr : ℕ) (routines : List ObjId) → IsDeclarable conf → Good (opened_node conf addr routines)
-opening_good conf addr routines can = record { holds = opening_holds conf addr routines can; rests = opening_rests conf addr routines }
+opening_good conf addr routines can = record { holds = opening_holds conf addr routines can; rests = opening_rests conf addr routines; numbers = record { once = λ number. omega arith; numbered = opened_numbered conf } }
 
 pub agree_from_opening : (conf : KConf) (addr : ℕ) (routines : List ObjId) (es : List NodeEvent) → IsDeclarable conf → Along PartsAgree (opened_node conf addr routines) es
 agree_from_opening conf addr routines es can = good_along PartsAgree agree (opened_node conf addr routines) es (opening_good conf addr routines can)

@@ -162,7 +162,7 @@ module _ (n : PlainNode) (task : TaskId) (free : is_free n task ≡ true) where
   is_the_running : running (tasks_of n.kernel) ≡ task
   is_the_running = ap (λ i. record { 0 = i }) (eqb-true _ _ runs.1)
 
-  calls_itself : Calls n.kernel (contexts.Task task)
+  pub calls_itself : Calls n.kernel (contexts.Task task)
   calls_itself t e = subst (λ u. (u.0 ≢ 0) × (running (tasks_of n.kernel) ≡ u)) (same t e) (somebody, is_the_running)
     where
       same : (t : TaskId) → contexts.Task task ≡ contexts.Task t → task ≡ t

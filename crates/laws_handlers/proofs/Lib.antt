@@ -13,3 +13,5 @@ pub mod KeepingPoints
 pub mod KeepingRows
 pub mod Rest
 pub mod Dues
+pub mod Borne
+pub mod Numbered
