@@ -1,15 +1,15 @@
 -- End points that differ in their queues and in what waits there alone, and calls of which one may be gone.
-use Rattle.std.proofs.Common.{◌≡◌, ℕ, zero, suc, ◌≤◌, Bool, true, false, List, [], ◌∷◌, ◌++◌, length, Option, Some, None, is_some, refl, ap, inl, inr, arith}
+use Rattle.std.proofs.Common.{◌≡◌, ℕ, zero, suc, ◌≤◌, Bool, true, false, List, [], ◌∷◌, length, Option, Some, None, is_some, refl, ap, inl, inr, arith}
 use Rattle.std.specs.List.{AllByRecursion, list_any}
 use Rattle.std.proofs.lemmas.Bool.{cases_Bool}
 use Rattle.spec_lists.specs.Tables.{get, change}
 use Rattle.spec_lists.specs.First.{take_first}
 use Rattle.spec_lists.specs.Counting.{one_if}
-use Rattle.spec_lists.proofs.Firsts.{some_parts}
 use Rattle.spec_net.specs.declared.point.Received.{Received}
 use Rattle.spec_pend.specs.declared.slot.Part.{Part}
 use Rattle.spec_pend.specs.declared.slot.Part.TheVariants.{Conn, Send, Recv}
 use Rattle.spec_pend.specs.declared.call.NetCall.{NetCall}
+use Rattle.spec_pend.proofs.Found.{all_found}
 use Rattle.spec_udp.specs.declared.point.Sending.{Sending}
 use Rattle.spec_udp.specs.declared.point.UdpPoint.{UdpPoint}
 use Rattle.spec_udp.specs.PlainUdps.{queue_limit}
@@ -90,28 +90,13 @@ pub data Shrinks (before : List NetCall) : List NetCall → Type 0 where
   none_ends : Shrinks before before
   one_ends : (f : NetCall → Bool) (z : NetCall × List NetCall) → take_first f before ≡ Some z → Shrinks before z.1
 
-found_all : (P : NetCall → Type 0) (f : NetCall → Bool) (cs : List NetCall) (z : NetCall × List NetCall) → take_first f cs ≡ Some z → AllByRecursion P cs → AllByRecursion P z.1
-found_all P f [] z e h = cc
-found_all P f (c ∷ cs) z e h = elim (some_parts f c cs z e) [
-  | inl s ↦ rw s.1 h.1
-  | inr s ↦ rw s.3 (h.0, found_all P f cs s.0 s.2 h.1)
-]
-
 pub shrinks_all : (P : NetCall → Type 0) (before after : List NetCall) → Shrinks before after → AllByRecursion P before → AllByRecursion P after
 shrinks_all P before _ Shrinks.none_ends h = h
-shrinks_all P before _ (Shrinks.one_ends f z e) h = found_all P f before z e h
+shrinks_all P before _ (Shrinks.one_ends f z e) h = (all_found P f before z e h).1
 
 pub shrinks_times : (p : NetCall → Bool) (before after : List NetCall) → Shrinks before after → times p after ≤ times p before
 shrinks_times p before _ Shrinks.none_ends = omega arith
 shrinks_times p before _ (Shrinks.one_ends f z e) = omega (arith, times_found p f before z e)
-
-pub all_map : (P Q : NetCall → Type 0) (cs : List NetCall) → ((c : NetCall) → P c → Q c) → AllByRecursion P cs → AllByRecursion Q cs
-all_map P Q [] follows h = tt
-all_map P Q (c ∷ cs) follows h = (follows c h.0, all_map P Q cs follows h.1)
-
-pub all_end : (P : NetCall → Type 0) (cs : List NetCall) (c : NetCall) → AllByRecursion P cs → P c → AllByRecursion P (cs ++ c ∷ [])
-all_end P [] c h new = (new, tt)
-all_end P (d ∷ ds) c h new = (h.0, all_end P ds c h.1 new)
 
 -- where none passes a test
 pub all_none : (P : NetCall → Type 0) (p : NetCall → Bool) (cs : List NetCall) → times p cs ≡ 0 → AllByRecursion P cs → AllByRecursion (λ c. P c × (p c ≡ false)) cs

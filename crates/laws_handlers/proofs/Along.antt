@@ -1,5 +1,5 @@
 -- Over every list of events both parts of a node with handlers agree.
-use Rattle.std.proofs.Common.{◌≡◌, ◌≢◌, ℕ, ◌+◌, ◌≤◌, Bool, true, false, not, ◌&&◌, ◌||◌, List, [], ◌∷◌, Option, Some, None, is_some, refl, sym, ap, ◌∙◌, subst, inl, inr, arith}
+use Rattle.std.proofs.Common.{◌≡◌, ◌≢◌, ℕ, ◌+◌, ◌≤◌, Bool, true, false, not, ◌&&◌, ◌||◌, List, Option, Some, None, is_some, refl, sym, ap, ◌∙◌, subst, inl, inr, arith}
 use mathlib.Core.Logic.{◌⊎◌}
 use Rattle.std.specs.Prelude.{◌==◌}
 use Rattle.std.proofs.lemmas.Bool.{eqb-true, eq-eqb, and_parts, not-true}
@@ -27,7 +27,6 @@ use Rattle.spec_kernel.specs.Opening.{IsDeclarable}
 use Rattle.spec_net.specs.declared.point.Received.{Received}
 use Rattle.spec_net.specs.Packets.{Arrived, arrived_in}
 use Rattle.spec_lists.specs.Tables.{get}
-use Rattle.spec_pend.specs.declared.call.NetCall.{NetCall}
 use Rattle.spec_pend.specs.PlainPend.{PlainPend}
 use Rattle.spec_pend.specs.Outs.{shown_answer}
 use Rattle.spec_udp.specs.PlainUdps.{UdpSide, UdpOutcome, quiet}
@@ -46,13 +45,10 @@ use Rattle.spec_handlers.specs.Admitted.{is_free, is_admitted}
 use Rattle.laws_kernel.specs.Calling.{Calls}
 use Rattle.laws_kernel.proofs.LastCalls.{call-last_call, tick-last_call}
 use Rattle.laws_kernel.proofs.Opened.{opened_stands}
-use Rattle.laws_node.proofs.Rising.{AllAbove, AllBelow, Rises}
 use Rattle.laws_node.proofs.KernelMoves.{call_grows, call_moves, tick_moves, tick_fewer}
 use Rattle.laws_node.proofs.Holders.{HoldersFree, holders_fewer, dropped_free}
-use Rattle.laws_handlers.specs.Taken.{taken, Along}
-use Rattle.laws_handlers.specs.Agreement.{AreAbove, AreInOrder, PartsAgree}
+use Rattle.laws_handlers.specs.Taken.{taken}
 use Rattle.laws_handlers.proofs.RowActs.{either}
-use Rattle.laws_handlers.proofs.NetMoves.{call_number, routine_calls_apart}
 use Rattle.laws_handlers.proofs.Waking.{Sound, WokenSound, settled_sound, unended_sound}
 use Rattle.laws_handlers.proofs.TakingOver.{Taken, net_taken, kernel_taken, timed_out_taken}
 use Rattle.laws_handlers.proofs.Holders.{HoldsNone, holders_called, held_free}
@@ -166,7 +162,7 @@ module _ (n : PlainNode) (task : TaskId) (free : is_free n task ≡ true) where
   is_the_running : running (tasks_of n.kernel) ≡ task
   is_the_running = ap (λ i. record { 0 = i }) (eqb-true _ _ runs.1)
 
-  calls_itself : Calls n.kernel (contexts.Task task)
+  pub calls_itself : Calls n.kernel (contexts.Task task)
   calls_itself t e = subst (λ u. (u.0 ≢ 0) × (running (tasks_of n.kernel) ≡ u)) (same t e) (somebody, is_the_running)
     where
       same : (t : TaskId) → contexts.Task task ≡ contexts.Task t → task ≡ t
@@ -200,29 +196,6 @@ taken_holds n event h = go (is_admitted n event) (λ e. step_holds n event e h)
     go true stepped = stepped refl
     go false stepped = h
 
-in_order : (last : ℕ) (cs : List NetCall) → Rises call_number cs → AllBelow call_number (last + 1) cs → AreInOrder last cs
-in_order last [] h low = tt
-in_order last (c ∷ cs) h low = (omega (arith, low.0), above c.call.0 cs h.0, in_order last cs h.1 low.1)
-  where
-    above : (m : ℕ) (ds : List NetCall) → AllAbove call_number m ds → AreAbove m ds
-    above m [] g = tt
-    above m (d ∷ ds) g = (g.0, above m ds g.1)
-
-pub agree : (n : PlainNode) → Holds n → PartsAgree n
-agree n h = record {
-  same = h.sound.same;
-  in_order = in_order n.net.pend.last n.net.pend.calls h.sound.rises h.sound.below;
-  drawn = h.sound.drawn;
-  routines = λ m i some. omega (arith, h.sound.same m i, routine_calls_apart m i n.net.pend.calls h.sound.rises some);
-  standing = h.sound.stands;
-  holders = h.free;
-}
-
--- what follows from it holds before and after each event
-pub holds_along : (P : PlainNode → Type 0) → ((n : PlainNode) → Holds n → P n) → (n : PlainNode) (es : List NodeEvent) → Holds n → Along P n es
-holds_along P follows n [] h = follows n h
-holds_along P follows n (e ∷ es) h = (follows n h, holds_along P follows (taken n e) es (taken_holds n e h))
-
 pub opening_holds : (conf : KConf) (addr : ℕ) (routines : List ObjId) → IsDeclarable conf → Holds (opened_node conf addr routines)
 opening_holds conf addr routines can = record {
   sound = record {
@@ -235,6 +208,3 @@ opening_holds conf addr routines can = record {
   };
   free = λ id there. refl;
 }
-
-pub agree_from_opening : (conf : KConf) (addr : ℕ) (routines : List ObjId) (es : List NodeEvent) → IsDeclarable conf → Along PartsAgree (opened_node conf addr routines) es
-agree_from_opening conf addr routines es can = holds_along PartsAgree agree (opened_node conf addr routines) es (opening_holds conf addr routines can)

@@ -79,7 +79,7 @@ pub record RowSound (k : PlainKernel) (ctx : Ctx) (request : Req) (calls : ℕ) 
   pub woken : WokenSound (blocked_where o.answer k ctx request (numbered_next calls)) o (calls + drawn (shown_answer (numbered_next calls) o.answer))
 
 -- a call that is accepted: its task is told, or with the flag a routine
-abbrev joined : UdpSide → Bool → TaskId → ObjId → Slot → CallNo → UdpOutcome
+abbrev pub joined : UdpSide → Bool → TaskId → ObjId → Slot → CallNo → UdpOutcome
 joined s later by cbr slot number = record (quiet s) {
   endings = no_endings (with_call s.pend (if later then whos.Callback by cbr else whos.Task by) slot number);
   answer = if later then Later else Pends;

@@ -19,6 +19,8 @@ use Rattle.spec_pend.specs.declared.slot.Slot.{Slot}
 use Rattle.spec_pend.specs.declared.call.Who.TheVariants as whos
 use Rattle.spec_pend.specs.declared.call.NetCall.{NetCall}
 use Rattle.spec_pend.specs.Slots.{part_number, is_at}
+use Rattle.spec_pend.specs.Kept.{IsCep}
+use Rattle.spec_pend.proofs.Found.{all_end, all_more}
 use Rattle.spec_udp.specs.declared.point.UdpPoint.{UdpPoint}
 use Rattle.spec_udp.specs.PlainUdps.{PlainUdps, queue_limit}
 use Rattle.spec_udp.specs.Points.{has_port, routine_at, queue_of}
@@ -26,7 +28,7 @@ use Rattle.spec_udp.specs.Rows.{is_untold, is_unknown, slot_of, who_is_told}
 use Rattle.laws_node.specs.Agreement.{times}
 use Rattle.laws_node.proofs.Times.{times_end}
 use Rattle.laws_handlers.specs.EndPoints.{IsDeclared, IsToldRightly}
-use Rattle.laws_handlers.proofs.Alike.{Alike, alike_ports, alike_at, Shrinks, shrinks_all, shrinks_times, all_map, all_end}
+use Rattle.laws_handlers.proofs.Alike.{Alike, alike_ports, alike_at, Shrinks, shrinks_all, shrinks_times}
 
 -- the call is a send or a receive at a UDP end point
 abbrev pub IsUdpCall : NetCall → Type 0
@@ -36,12 +38,17 @@ IsUdpCall c = (c.slot ≡ slot_of c.slot.cep functions.UdpRcv) ⊎ (c.slot ≡ s
 abbrev pub is_in : ℕ → ℕ → NetCall → Bool
 is_in cep part c = is_at true (record { 0 = cep }) c && (part_number c.slot.part == part)
 
+-- its end point has an id of one
+abbrev pub HasCep : NetCall → Type 0
+HasCep c = IsCep c.slot.cep
+
 -- what holds also while an event goes on
 pub record Kept (u : PlainUdps) (calls : List NetCall) : Type 0 where
   pub ports : (port : ℕ) → times (has_port port) u.points ≤ 1
   pub queues : (id : ℕ) → length (queue_of (get u.points id)) ≤ queue_limit
   pub known : (id : ℕ) → is_unknown u.routines (routine_at (get u.points id)) ≡ false
   pub kinds : AllByRecursion IsUdpCall calls
+  pub ceps : AllByRecursion HasCep calls
   pub places : (cep part : ℕ) → times (is_in cep part) calls ≤ one_if (is_some (get u.points cep))
   pub routines : AllByRecursion (IsToldRightly u) calls
 
@@ -59,8 +66,9 @@ alike_kept u v before after h alike same shrinks = record {
   queues = λ i. (alike_at u.points v.points i alike).room (h.queues i);
   known = λ i. subst (λ rs. is_unknown rs (routine_at (get v.points i)) ≡ false) (sym same) (subst (λ r. is_unknown u.routines r ≡ false) (sym (alike_at u.points v.points i alike).routine) (h.known i));
   kinds = shrinks_all IsUdpCall before after shrinks h.kinds;
+  ceps = shrinks_all HasCep before after shrinks h.ceps;
   places = λ cep part. omega (arith, h.places cep part, shrinks_times (is_in cep part) before after shrinks, ap one_if (alike_at u.points v.points cep alike).there);
-  routines = all_map (IsToldRightly u) (IsToldRightly v) after (λ c g. still_told u v c alike same g) (shrinks_all (IsToldRightly u) before after shrinks h.routines);
+  routines = all_more (IsToldRightly u) (IsToldRightly v) after (λ c g. still_told u v c alike same g) (shrinks_all (IsToldRightly u) before after shrinks h.routines);
 }
 
 -- ---- a call that is accepted
@@ -79,15 +87,17 @@ in_place cep part c e =
 pub joined_kept : (u : PlainUdps) (calls : List NetCall) (new : NetCall)
     → Kept u calls
     → IsUdpCall new
+    → IsCep new.slot.cep
     → is_none (get u.points new.slot.cep.0) ≡ false
     → times (is_in new.slot.cep.0 (part_number new.slot.part)) calls ≡ 0
     → IsToldRightly u new
     → Kept u (calls ++ new ∷ [])
-joined_kept u calls new h kind there none told = record {
+joined_kept u calls new h kind cep there none told = record {
   ports = h.ports;
   queues = h.queues;
   known = h.known;
   kinds = all_end IsUdpCall calls new h.kinds kind;
+  ceps = all_end HasCep calls new h.ceps cep;
   places = places;
   routines = all_end (IsToldRightly u) calls new h.routines told;
 }

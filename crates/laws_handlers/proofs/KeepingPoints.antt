@@ -24,6 +24,7 @@ use Rattle.spec_pend.specs.declared.call.NetCall.{NetCall}
 use Rattle.spec_pend.specs.PlainPend.{PlainPend, no_endings}
 use Rattle.spec_pend.specs.Slots.{part_number, part_of, is_at, is_named}
 use Rattle.spec_pend.specs.Ends.{ended_where}
+use Rattle.spec_pend.proofs.Found.{all_more}
 use Rattle.spec_udp.specs.declared.point.UdpPoint.{UdpPoint}
 use Rattle.spec_udp.specs.PlainUdps.{PlainUdps, queue_limit}
 use Rattle.spec_udp.specs.Points.{has_port, routine_at, queue_of}
@@ -34,8 +35,8 @@ use Rattle.laws_kernel.proofs.Lists.{found_passes}
 use Rattle.laws_node.specs.Agreement.{times}
 use Rattle.laws_node.proofs.Times.{times_found, times_none}
 use Rattle.laws_handlers.specs.EndPoints.{IsReceive, IsToldRightly}
-use Rattle.laws_handlers.proofs.Alike.{Shrinks, shrinks_all, shrinks_times, all_map, all_none, none_times}
-use Rattle.laws_handlers.proofs.Keeping.{IsUdpCall, is_in, Kept}
+use Rattle.laws_handlers.proofs.Alike.{Shrinks, shrinks_all, shrinks_times, all_none, none_times}
+use Rattle.laws_handlers.proofs.Keeping.{IsUdpCall, HasCep, is_in, Kept}
 
 -- ---- where no call is ready
 
@@ -115,8 +116,9 @@ made_kept u calls cep p h none free known empty = record {
   queues = at_all (λ o. length (queue_of o) ≤ queue_limit) u.points cep.0 (Some p) (omega (arith, ap length empty)) (omega arith) h.queues;
   known = at_all (λ o. is_unknown u.routines (routine_at o) ≡ false) u.points cep.0 (Some p) known refl h.known;
   kinds = h.kinds;
+  ceps = h.ceps;
   places = places;
-  routines = all_map (IsToldRightly u) (IsToldRightly after) calls told h.routines;
+  routines = all_more (IsToldRightly u) (IsToldRightly after) calls told h.routines;
 }
   where
     after : PlainUdps
@@ -224,8 +226,9 @@ deleted_kept u before after cep h shrinks none = record {
   queues = at_all (λ o. length (queue_of o) ≤ queue_limit) u.points cep.0 None (omega arith) (omega arith) h.queues;
   known = at_all (λ o. is_unknown u.routines (routine_at o) ≡ false) u.points cep.0 None refl refl h.known;
   kinds = kinds;
+  ceps = shrinks_all HasCep before after shrinks h.ceps;
   places = places;
-  routines = all_map (Apart u cep) (IsToldRightly without) after told (all_none (λ c. IsUdpCall c × IsToldRightly u c) (is_at true cep) after none (both IsUdpCall (IsToldRightly u) after kinds (shrinks_all (IsToldRightly u) before after shrinks h.routines)));
+  routines = all_more (Apart u cep) (IsToldRightly without) after told (all_none (λ c. IsUdpCall c × IsToldRightly u c) (is_at true cep) after none (both IsUdpCall (IsToldRightly u) after kinds (shrinks_all (IsToldRightly u) before after shrinks h.routines)));
 }
   where
     without : PlainUdps

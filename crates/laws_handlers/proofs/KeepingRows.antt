@@ -1,8 +1,8 @@
 -- Each event of the UDP end points, at rest before, keeps them as they are to be, and leaves them at rest.
 use Rattle.std.proofs.Common.{◌≡◌, ℕ, zero, suc, ◌<◌, ◌≤◌, true, false, ◌&&◌, List, [], ◌∷◌, ◌++◌, length, replicate, Option, Some, None, is_some, is_none, refl, sym, ap, subst, ◌∙◌, inl, inr, arith}
-use Rattle.std.specs.Prelude.{◌==◌}
+use Rattle.std.specs.Prelude.{◌==◌, nat_lt}
 use Rattle.std.specs.List.{AllByRecursion}
-use Rattle.std.proofs.lemmas.Bool.{cases_lt, ltb-true}
+use Rattle.std.proofs.lemmas.Bool.{cases_lt, ltb-true, ltb-false, cases_eq, eq-eqb, or_parts}
 use Rattle.std.proofs.lemmas.List.{length-append, length-replicate, get_or-replicate, get_or_past}
 use Rattle.it_types.specs.declared.id.TaskId.{TaskId}
 use Rattle.it_types.specs.declared.id.ObjId.{ObjId}
@@ -26,8 +26,10 @@ use Rattle.spec_pend.specs.declared.call.Who.TheVariants as whos
 use Rattle.spec_pend.specs.declared.call.NetCall.{NetCall}
 use Rattle.spec_pend.specs.Slots.{part_number, part_of, is_at, has_slot, is_named, named, has_number, numbered}
 use Rattle.spec_pend.specs.Slots as slots
+use Rattle.spec_pend.specs.Kept.{IsCep}
+use Rattle.spec_net.specs.UdpRows.{is_wrong_id}
 use Rattle.spec_udp.specs.declared.point.UdpPoint.{UdpPoint}
-use Rattle.spec_udp.specs.PlainUdps.{PlainUdps, UdpSide, UdpOutcome, side_after, quiet, queue_limit, opened_udps}
+use Rattle.spec_udp.specs.PlainUdps.{PlainUdps, UdpSide, UdpOutcome, side_after, quiet, greatest_point, queue_limit, opened_udps}
 use Rattle.spec_udp.specs.Points.{has_port, routine_at, queue_of, joined, new_point, with_wanted, with_sending, without_oldest}
 use Rattle.spec_udp.specs.Ports.{is_taken, free_port, port_for}
 use Rattle.spec_udp.specs.Rows.{is_untold, is_unknown, slot_of, with_point, deleted, who_is_told, row, udp_call}
@@ -48,6 +50,11 @@ none_as : (o p : Option UdpPoint) → is_some p ≡ is_some o → is_none o ≡ 
 none_as None p same there = absurd cc
 none_as (Some x) None same there = absurd cc
 none_as (Some x) (Some y) same there = refl
+
+is_cep : (cep : CepId) → is_wrong_id cep.0 ≡ false → IsCep cep
+is_cep cep right =
+    let parts = or_parts (cep.0 == 0) (nat_lt greatest_point cep.0) right in
+    record { low = elim (cases_eq cep.0 0) [ inl none ↦ absurd (let f : true ≡ false = sym (eq-eqb cep.0 0 none) ∙ parts.0 in cc) | inr some ↦ omega (arith, some) ]; high = ltb-false greatest_point cep.0 parts.1 }
 
 -- between events: no call is ready
 pub record RestsKept (s : UdpSide) : Type 0 where
@@ -90,8 +97,11 @@ shrunk_kept : (u : PlainUdps) (before after : List NetCall) → Kept u before �
 shrunk_kept u before after h shrinks = alike_kept u u before after h (same_points u.points) refl shrinks
 
 module _ (s : UdpSide) (h : RestsKept s) where
-  only_receives : AllByRecursion IsReceive s.pend.calls
+  pub only_receives : AllByRecursion IsReceive s.pend.calls
   only_receives = all_receives s.udps s.pend.calls h.rests h.kept.kinds
+
+  pub at_most_one : (cep : CepId) → times (is_at true cep) s.pend.calls ≤ 1
+  at_most_one cep = omega (arith, receives_at cep.0 s.pend.calls only_receives, h.kept.places cep.0 2, one_if-at_most (is_some (get s.udps.points cep.0)))
 
   -- one end point changes into one that is alike
   changed_kept : (cep : CepId) (f : Option UdpPoint → Option UdpPoint) → AlikePoint (get s.udps.points cep.0) (f (get s.udps.points cep.0)) → Kept (with_point s cep f).udps s.pend.calls
@@ -103,21 +113,19 @@ module _ (s : UdpSide) (h : RestsKept s) where
   delete_kept : (cep : CepId) → KeptAfter (deleted s cep)
   delete_kept cep = deleted_kept s.udps s.pend.calls (calls_of (deleted s cep)) cep h.kept
       (where_shrinks s.pend (is_least (is_named true cep functions.All) part_of s.pend.calls) (named s.pend true cep functions.All) E_DLT refl)
-      (none_left s.pend cep (named s.pend true cep functions.All) E_DLT only_receives at_most_one refl)
-    where
-      at_most_one : times (is_at true cep) s.pend.calls ≤ 1
-      at_most_one = omega (arith, receives_at cep.0 s.pend.calls only_receives, h.kept.places cep.0 2, one_if-at_most (is_some (get s.udps.points cep.0)))
+      (none_left s.pend cep (named s.pend true cep functions.All) E_DLT only_receives (at_most_one cep) refl)
 
   -- a call that is accepted, after a change of its end point to one that is alike
   accept_kept : (t : TaskId) (cep : CepId) (tmo : Tmo) (number : CallNo) (f : Option UdpPoint → Option UdpPoint) (slot : Slot)
       → AlikePoint (get s.udps.points cep.0) (f (get s.udps.points cep.0))
       → slot.cep ≡ cep
       → IsUdpCall (record { call = number; who = whos.Task t; slot = slot })
+      → is_wrong_id cep.0 ≡ false
       → is_none (get s.udps.points cep.0) ≡ false
       → is_untold (get s.udps.points cep.0) tmo ≡ false
       → times (is_in slot.cep.0 (part_number slot.part)) s.pend.calls ≡ 0
       → Kept (with_point s cep f).udps (s.pend.calls ++ record { call = number; who = who_is_told t (routine_at (get (with_point s cep f).udps.points cep.0)) tmo; slot = slot } ∷ [])
-  accept_kept t cep tmo number f slot alike at kind there told none = joined_kept u s.pend.calls new kept kind
+  accept_kept t cep tmo number f slot alike at kind right there told none = joined_kept u s.pend.calls new kept kind (subst IsCep (sym at) (is_cep cep right))
       (ap (λ (c : CepId). is_none (get u.points c.0)) at ∙ still_there) none (told_rightly u s.pend.calls cep t tmo number slot kept at still_told)
     where
       u : PlainUdps
@@ -149,10 +157,10 @@ module _ (s : UdpSide) (h : RestsKept s) where
     sends = λ cep dest load. h.kept;
     takes = λ cep code bytes. changed_kept cep without_oldest (oldest_alike (get s.udps.points cep.0));
     sends_later = λ cep what tmo allowed nblk.
-        accept_kept (caller ctx) cep tmo number (with_sending (Some what)) (slot_of cep functions.UdpSnd) (sending_alike (Some what) (get s.udps.points cep.0)) refl (inr refl) allowed.there allowed.told
+        accept_kept (caller ctx) cep tmo number (with_sending (Some what)) (slot_of cep functions.UdpSnd) (sending_alike (Some what) (get s.udps.points cep.0)) refl (inr refl) allowed.right allowed.there allowed.told
         (none_elsewhere cep.0 1 s.pend.calls (λ e. omega (arith, e)) only_receives);
     waits = λ cep len tmo allowed none.
-        accept_kept (caller ctx) cep tmo number (with_wanted len) (slot_of cep functions.UdpRcv) (wanted_alike len (get s.udps.points cep.0)) refl (inl refl) allowed.there allowed.told (receive_free cep none);
+        accept_kept (caller ctx) cep tmo number (with_wanted len) (slot_of cep functions.UdpRcv) (wanted_alike len (get s.udps.points cep.0)) refl (inl refl) allowed.right allowed.there allowed.told (receive_free cep none);
     cancels = λ cep func. shrunk_kept s.udps s.pend.calls _ h.kept (where_shrinks s.pend (is_least (is_named true cep func) part_of s.pend.calls) (named s.pend true cep func) E_RLWAI refl);
   }) request
 
@@ -214,6 +222,7 @@ opened_kept addr routines = record {
   queues = λ i. omega (arith, ap (λ o. length (queue_of o)) (nothing_opened addr routines i));
   known = λ i. ap (λ o. is_unknown routines (routine_at o)) (nothing_opened addr routines i);
   kinds = tt;
+  ceps = tt;
   places = λ cep part. omega arith;
   routines = tt;
 }

@@ -5,9 +5,13 @@ pub mod TakingOver
 pub mod Holders
 pub mod Joining
 pub mod Along
+pub mod Agreeing
 pub mod RunsFree
 pub mod Alike
 pub mod Keeping
 pub mod KeepingPoints
 pub mod KeepingRows
 pub mod Rest
+pub mod Dues
+pub mod Borne
+pub mod Numbered

@@ -1,13 +1,12 @@
 -- What settling of the network part does to its calls: those that end leave the list, and no other does.
-use Rattle.std.proofs.Common.{◌≡◌, ℕ, zero, suc, ◌+◌, ◌≤◌, Bool, true, false, ◌&&◌, List, [], ◌∷◌, ◌++◌, Some, refl, sym, ◌∙◌, ap, subst, inl, inr, arith}
+use Rattle.std.proofs.Common.{◌≡◌, ℕ, zero, suc, ◌+◌, ◌≤◌, Bool, true, ◌&&◌, List, [], ◌∷◌, ◌++◌, Some, refl, sym, ◌∙◌, ap, subst, inl, inr, arith}
 use Rattle.std.specs.Prelude.{◌==◌}
-use Rattle.std.proofs.lemmas.Bool.{cases_Bool, eqb-true, and_parts, and_left, and_right}
+use Rattle.std.proofs.lemmas.Bool.{cases_Bool, eqb-true, and_parts}
 use Rattle.std.proofs.lemmas.List.{append-nil, append_assoc}
 use Rattle.it_types.specs.declared.id.TaskId.{TaskId}
 use Rattle.it_types.specs.declared.id.CallNo.{CallNo}
 use Rattle.spec_lists.specs.Tables.{get}
 use Rattle.spec_lists.specs.First.{put_back, take_first}
-use Rattle.spec_lists.specs.Counting.{one_if}
 use Rattle.spec_lists.proofs.Firsts.{cases_of_first, at_first, past_first}
 use Rattle.spec_pend.specs.declared.call.Who.{Who}
 use Rattle.spec_pend.specs.declared.call.Who.TheVariants as whos
@@ -20,7 +19,7 @@ use Rattle.spec_udp.specs.Settling.{is_ready, first_ready, met_code, met_bytes, 
 use Rattle.laws_node.specs.Agreement.{times}
 use Rattle.laws_node.proofs.Rising.{AllAbove, AllBelow, Rises, rises_found, below_found}
 use Rattle.laws_node.proofs.Times.{times_found, is_one}
-use Rattle.laws_handlers.specs.Agreement.{tells, tells_routine, is_net_call, is_routine_call}
+use Rattle.laws_handlers.specs.Agreement.{tells, is_net_call}
 
 abbrev pub call_number : NetCall → ℕ
 call_number c = c.call.0
@@ -42,10 +41,11 @@ pub record Left (o p : UdpOutcome) : Type 0 where
   pub rises : Rises call_number (calls_of o) → Rises call_number (calls_of p)
   pub below : (n : ℕ) → AllBelow call_number n (calls_of o) → AllBelow call_number n (calls_of p)
   pub last : p.endings.pend.last ≡ o.endings.pend.last
+  pub fewer : (f : NetCall → Bool) → times f (calls_of p) ≤ times f (calls_of o)
   pub answer : p.answer ≡ o.answer
 
 nothing_left : (o : UdpOutcome) → Left o o
-nothing_left o = record { more = []; told = sym (append-nil o.endings.ends); same = λ number id. omega arith; rises = λ h. h; below = λ n h. h; last = refl; answer = refl }
+nothing_left o = record { more = []; told = sym (append-nil o.endings.ends); same = λ number id. omega arith; rises = λ h. h; below = λ n h. h; last = refl; fewer = λ f. omega arith; answer = refl }
 
 pub settle_left : (n : ℕ) (o : UdpOutcome) → Left o (settle n o)
 unfolding settle
@@ -64,6 +64,7 @@ settle_left (suc n) o = elim (cases_of_first (first_ready (side_after o))) [
         rises = λ h. rest.rises (rises_found call_number (is_ready o.udps) (calls_of o) z w.1 h);
         below = λ m h. rest.below m (below_found call_number m (is_ready o.udps) (calls_of o) z w.1 h);
         last = rest.last;
+        fewer = λ f. omega (arith, rest.fewer f, times_found f (is_ready o.udps) (calls_of o) z w.1);
         answer = rest.answer;
       })
       )
@@ -103,28 +104,3 @@ numbered_is number id (c ∷ cs) rises le = elim (cases_Bool (c.call.0 == number
 pub told_task : (id : ℕ) (who : Who) → tells id who ≡ true → (t : TaskId) × (who ≡ whos.Task t) × (t.0 ≡ id)
 told_task id (whos.Task t) e = (t, refl, eqb-true t.0 id e)
 told_task id (whos.Callback t cbr) e = absurd cc
-
--- ---- calls of which a routine is told
-
-routine_number : (number : ℕ) (c : NetCall) → is_routine_call number c ≡ true → c.call.0 ≡ number
-routine_number number c e = eqb-true c.call.0 number (and_parts (c.call.0 == number) (tells_routine c.who) e).0
-
-tells_no_task : (id : ℕ) (who : Who) → tells_routine who ≡ true → tells id who ≡ false
-tells_no_task id (whos.Task t) e = absurd cc
-tells_no_task id (whos.Callback t cbr) e = refl
-
--- no task is told of such a call
-pub routine_calls_apart : (number id : ℕ) (cs : List NetCall) → Rises call_number cs → 1 ≤ times (is_routine_call number) cs → times (is_net_call number id) cs ≡ 0
-routine_calls_apart number id [] rises le = refl
-routine_calls_apart number id (c ∷ cs) rises le = elim (cases_Bool (c.call.0 == number)) [
-  | inl t ↦ (
-      let above : AllAbove call_number number cs = subst (λ n. AllAbove call_number n cs) (eqb-true c.call.0 number t) rises.0 in
-      let none = none_above (is_routine_call number) number cs (routine_number number) above in
-      let routine = and_parts (c.call.0 == number) (tells_routine c.who) (is_one (is_routine_call number c) (omega (arith, le, none))) in
-      omega (arith, none_above (is_net_call number id) number cs (number_of number id) above, ap one_if (and_right (c.call.0 == number) (tells id c.who) (tells_no_task id c.who routine.1)))
-      )
-  | inr t ↦ (
-      let fewer : 1 ≤ 0 + times (is_routine_call number) cs = rw t at le in
-      omega (arith, routine_calls_apart number id cs rises.1 (omega (arith, fewer)), ap one_if (and_left (c.call.0 == number) (tells id c.who) t))
-      )
-]

@@ -239,27 +239,26 @@ step_rests n (Arrive bytes) rest = arrived_rests n bytes rest
 
 -- ---- any list of events
 
-taken_rests : (n : PlainNode) (event : NodeEvent) → Rests n → Rests (taken n event)
+pub taken_rests : (n : PlainNode) (event : NodeEvent) → Rests n → Rests (taken n event)
 taken_rests n event rest = go (is_admitted n event)
   where
     go : (b : Bool) → Rests (elim b [ true ↦ (node_step n event).0 | false ↦ n ])
     go true = step_rests n event rest
     go false = rest
 
+pub opening_rests : (conf : KConf) (addr : ℕ) (routines : List ObjId) → Rests (opened_node conf addr routines)
+opening_rests conf addr routines = record { kernel = refl; past = refl; net = record { rests = refl; kept = opened_kept addr routines } }
+
+-- what follows from it holds before and after each event
+rests_along : (P : PlainNode → Type 0) → ((n : PlainNode) → Rests n → P n) → (n : PlainNode) (es : List NodeEvent) → Rests n → Along P n es
+rests_along P follows n [] rest = follows n rest
+rests_along P follows n (e ∷ es) rest = (follows n rest, rests_along P follows (taken n e) es (taken_rests n e rest))
+
 node_rests : (n : PlainNode) → Rests n → NodeRests n
 node_rests n rest = record { none_ready = rest.kernel; none_past = rest.past; none_met = rest.net.rests; points = points_kept n.net rest.net }
 
-rests_along : (n : PlainNode) (es : List NodeEvent) → Rests n → Along NodeRests n es
-rests_along n [] rest = node_rests n rest
-rests_along n (e ∷ es) rest = (node_rests n rest, rests_along (taken n e) es (taken_rests n e rest))
-
 pub rests_from_opening : (conf : KConf) (addr : ℕ) (routines : List ObjId) (es : List NodeEvent) → Along NodeRests (opened_node conf addr routines) es
-rests_from_opening conf addr routines es = rests_along (opened_node conf addr routines) es (record { kernel = refl; past = refl; net = record { rests = refl; kept = opened_kept addr routines } })
-
--- so the end points are kept
-points_along : (n : PlainNode) (es : List NodeEvent) → Along NodeRests n es → Along HasKeptPoints n es
-points_along n [] h = h.points
-points_along n (e ∷ es) h = (h.0.points, points_along (taken n e) es h.1)
+rests_from_opening conf addr routines es = rests_along NodeRests node_rests (opened_node conf addr routines) es (opening_rests conf addr routines)
 
 pub kept_from_opening : (conf : KConf) (addr : ℕ) (routines : List ObjId) (es : List NodeEvent) → Along HasKeptPoints (opened_node conf addr routines) es
-kept_from_opening conf addr routines es = points_along (opened_node conf addr routines) es (rests_from_opening conf addr routines es)
+kept_from_opening conf addr routines es = rests_along HasKeptPoints (λ n rest. points_kept n.net rest.net) (opened_node conf addr routines) es (opening_rests conf addr routines)

@@ -20,7 +20,8 @@ use Rattle.laws_handlers.specs.Taken.{Along}
 use Rattle.laws_handlers.specs.Agreement.{tells, is_net_call}
 use Rattle.laws_handlers.specs.Running.{Stands, is_told, RunsFree}
 use Rattle.laws_handlers.proofs.Holders.{nobody_waits}
-use Rattle.laws_handlers.proofs.Along.{Holds, holds_along, opening_holds}
+use Rattle.laws_handlers.proofs.Along.{Holds}
+use Rattle.laws_handlers.proofs.Agreeing.{good_along, opening_good}
 
 -- no call of the running task waits in the kernel, nor of nobody
 runs_idle : (k : PlainKernel) → IsStanding k → times_waiting (running_in k).0 k.waits ≡ 0
@@ -46,7 +47,7 @@ runs_free n h =
     }
 
 pub standing_from_opening : (conf : KConf) (addr : ℕ) (routines : List ObjId) (es : List NodeEvent) → IsDeclarable conf → Along Stands (opened_node conf addr routines) es
-standing_from_opening conf addr routines es can = holds_along Stands (λ n h. h.sound.stands) (opened_node conf addr routines) es (opening_holds conf addr routines can)
+standing_from_opening conf addr routines es can = good_along Stands (λ n g. g.holds.sound.stands) (opened_node conf addr routines) es (opening_good conf addr routines can)
 
 pub free_from_opening : (conf : KConf) (addr : ℕ) (routines : List ObjId) (es : List NodeEvent) → IsDeclarable conf → Along RunsFree (opened_node conf addr routines) es
-free_from_opening conf addr routines es can = holds_along RunsFree runs_free (opened_node conf addr routines) es (opening_holds conf addr routines can)
+free_from_opening conf addr routines es can = good_along RunsFree (λ n g. runs_free n g.holds) (opened_node conf addr routines) es (opening_good conf addr routines can)

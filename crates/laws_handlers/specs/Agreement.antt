@@ -1,10 +1,12 @@
 -- That the two parts of a node agree on which tasks wait for calls of the network part. It is this project's own.
-use Rattle.std.specs.Prelude.{◌≡◌, ℕ, ◌≤◌, ◌<◌, Bool, true, false, ◌&&◌, List, [], ◌∷◌, ◌==◌, is_some}
+use Rattle.std.specs.Prelude.{◌≡◌, ℕ, ◌+◌, ◌≤◌, Bool, true, false, ◌&&◌, ◌==◌, is_some}
 use Rattle.spec_lists.specs.Tables.{get}
+use Rattle.spec_kernel.specs.declared.reason.WaitingCall.{WaitingCall}
 use Rattle.spec_kernel.specs.Standing.{IsStanding}
 use Rattle.spec_pend.specs.declared.call.Who.{Who}
 use Rattle.spec_pend.specs.declared.call.Who.TheVariants as whos
 use Rattle.spec_pend.specs.declared.call.NetCall.{NetCall}
+use Rattle.spec_pend.specs.Kept.{PendKept}
 use Rattle.spec_handlers.specs.PlainNode.{PlainNode}
 use Rattle.laws_node.specs.Agreement.{times, times_waiting, is_outside_call}
 
@@ -25,24 +27,19 @@ is_net_call number id c = (c.call.0 == number) && tells id c.who
 abbrev pub is_routine_call : ℕ → NetCall → Bool
 is_routine_call number c = (c.call.0 == number) && tells_routine c.who
 
--- each call has a number above n
-abbrev pub AreAbove : ℕ → List NetCall → Type 0
-AreAbove n [] = Unit {0}
-AreAbove n (c ∷ cs) = (n < c.call.0) × AreAbove n cs
-
--- the calls stand in the order of their numbers, each once, and none has a number above the last
-abbrev pub AreInOrder : ℕ → List NetCall → Type 0
-AreInOrder last [] = Unit {0}
-AreInOrder last (c ∷ cs) = (c.call.0 ≤ last) × AreAbove c.call.0 cs × AreInOrder last cs
+-- the call has this number
+abbrev pub is_numbered : ℕ → WaitingCall → Bool
+is_numbered number w = w.call.0 == number
 
 -- Each task that waits outside the kernel made the waiting call of the network part that has its number and of whose end it is told,
--- and the other way round. The calls stand in the order of their numbers, each at most the last one drawn. No task waits for a call
--- of which a routine is told. The list of runnable tasks has each active task that is neither suspended nor waits, once, and no
+-- and the other way round. The calls stand in the order of their numbers, each at most the last one drawn, no two at one part of an
+-- end point. One call at most has a number, of those that wait in the kernel and those of which routines are told: so none waits in the
+-- kernel under the number of a call of which a routine is told. The list of runnable tasks has each active task that is neither suspended nor waits, once, and no
 -- task waits twice. A task that holds an answer doesn't wait.
 pub record PartsAgree (n : PlainNode) : Type 0 where
   pub same : (number id : ℕ) → times (is_outside_call number id) n.kernel.waits ≡ times (is_net_call number id) n.net.pend.calls
-  pub in_order : AreInOrder n.net.pend.last n.net.pend.calls
+  pub in_order : PendKept n.net.pend
   pub drawn : n.net.pend.last ≤ n.calls
-  pub routines : (number id : ℕ) → 1 ≤ times (is_routine_call number) n.net.pend.calls → times (is_outside_call number id) n.kernel.waits ≡ 0
+  pub numbers : (number : ℕ) → times (is_numbered number) n.kernel.waits + times (is_routine_call number) n.net.pend.calls ≤ 1
   pub standing : IsStanding n.kernel
   pub holders : (id : ℕ) → is_some (get n.held id) ≡ true → times_waiting id n.kernel.waits ≡ 0

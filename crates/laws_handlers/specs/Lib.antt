@@ -3,3 +3,4 @@ pub mod Agreement
 pub mod Running
 pub mod EndPoints
 pub mod AtRest
+pub mod Due

@@ -1,19 +1,15 @@
 -- The handlers of a node: which become due at a tick, which begins, and its end (µITRON4.0 section 4.7.2 for cyclic handlers, ITRON
 -- TCP/IP API for callback routines; that a handler begins and ends in events of its own is this project's own).
-use Rattle.std.specs.Prelude.{Bool, false, List, [], ◌∷◌, ◌++◌, ◌==◌, Option, Some, None, if◌then◌else◌}
+use Rattle.std.specs.Prelude.{List, [], ◌∷◌, ◌++◌, Option, Some, None, if◌then◌else◌}
 use Rattle.std.specs.List.{list_any}
 use Rattle.it_types.specs.declared.id.ObjId.{ObjId}
 use Rattle.it_types.specs.declared.handler.Handler.{Handler}
-use Rattle.it_types.specs.declared.handler.Handler.TheVariants.{Cyc, Cbr}
+use Rattle.it_types.specs.declared.handler.Handler.TheVariants.{Cyc}
 use Rattle.it_types.specs.declared.mark.Mark.{Mark}
 use Rattle.it_types.specs.declared.mark.Mark.TheVariants as marks
-use Rattle.spec_pend.specs.Ends.{first_due, later_due}
+use Rattle.spec_pend.specs.Ends.{first_due, later_due, is_cyclic}
 use Rattle.spec_udp.specs.PlainUdps.{UdpSide}
 use Rattle.spec_handlers.specs.PlainNode.{PlainNode}
-
-abbrev pub is_cyclic : ObjId → Handler → Bool
-is_cyclic cyc (Cyc c) = c.0 == cyc.0
-is_cyclic cyc (Cbr cbr udp cep func code bytes) = false
 
 -- a cyclic handler that comes due is the last of those that are due; one that is due already isn't due twice
 abbrev pub with_cyclic : List Handler → ObjId → List Handler
