@@ -1,4 +1,4 @@
-ghost use Rattle.std.specs.Prelude.{◌≡◌, ◌↔◌, ◌<◌, IfOk, IfSome, IsOk, None, OnErr, OnOk, true};
+ghost use Rattle.std.specs.Prelude.{◌≡◌, ◌↔◌, ◌<◌, IfOk, IfSome, IsOk, None, OnErr, OnOk, option_map, true};
 ghost use Rattle.std.specs.List.{position};
 ghost use Rattle.spec_pend.specs.Ends.{AddsDue, ended};
 ghost use Rattle.spec_pend.specs.Kept.{IsCep};
@@ -84,6 +84,16 @@ impl Pend {
     {
         let place = place_at(self.calls.as_slice(), what);
         number_at(self.calls.as_slice(), place)
+    }
+
+    /// The call of this number, if it waits.
+    pub fn call(&self, no: CallNo) -> Option<NetCall>
+        ensures { result ≡ option_map (λ found. found.0) (numbered self.now no) }
+    {
+        match place_of(self.calls.as_slice(), no) {
+            Some(place) => Some(call_at(self.calls.as_slice(), place)),
+            None => None,
+        }
     }
 
     /// The number of the call that a cancel of this function ends first at an end point (ITRON TCP/IP API, `tcp_can_cep` and

@@ -1,0 +1,5 @@
+pub mod Contexts
+pub mod Does
+pub mod FromWire
+pub mod Kept
+pub mod Shows
