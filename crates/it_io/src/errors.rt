@@ -2,7 +2,3 @@
 /// counts it.
 #[derive(Debug, Clone, Copy, PartialEq, Eq)]
 pub struct Failed;
-
-/// The memory that was asked for was refused.
-#[derive(Debug, Clone, Copy, PartialEq, Eq)]
-pub struct NoMemory;

@@ -16,7 +16,7 @@ mod std_source;
 mod uninterrupted;
 mod writing;
 
-pub use errors::{Failed, NoMemory};
+pub use errors::Failed;
 pub use mem_sink::MemSink;
 pub use mem_source::MemSource;
 pub use reading::{ReadErr, read_all};

@@ -4,9 +4,10 @@ ghost use Rattle.std.specs.Io.KnownBytes.{WriteAppends};
 ghost use Rattle.it_io.specs.Faults.{Rose, next_count};
 
 use super::copying::copy_piece;
-use super::errors::{Failed, NoMemory};
+use super::errors::Failed;
 use super::fault_plan::FaultPlan;
 use super::sink::Sink;
+use it_types::NoMemory;
 use std::alloc::Global;
 use std::marker::Model;
 

@@ -1,5 +1,5 @@
 -- Over every list of events both parts of a node with handlers agree, and its calls stand in order.
-use Rattle.std.proofs.Common.{◌≡◌, ◌≢◌, ℕ, ◌+◌, ◌≤◌, true, false, List, [], ◌∷◌, refl, sym, ap, ◌∙◌, arith}
+use Rattle.std.proofs.Common.{◌≡◌, ◌≢◌, ℕ, Bool, ◌+◌, ◌≤◌, true, false, List, [], ◌∷◌, refl, sym, ap, ◌∙◌, arith}
 use Rattle.std.specs.Prelude.{◌==◌}
 use Rattle.std.specs.Bool.{beq}
 use Rattle.std.specs.List.{AllByRecursion}
@@ -16,6 +16,8 @@ use Rattle.spec_pend.specs.Kept.{EachBefore, IsBelow, AreApart, Rise, PendKept}
 use Rattle.spec_pend.proofs.Found.{all_more}
 use Rattle.spec_handlers.specs.declared.event.NodeEvent.{NodeEvent}
 use Rattle.spec_handlers.specs.PlainNode.{PlainNode, opened_node}
+use Rattle.spec_handlers.specs.NodeStep.{node_step}
+use Rattle.spec_handlers.specs.Admitted.{is_admitted}
 use Rattle.laws_kernel.proofs.Numbers.{opened_numbered}
 use Rattle.laws_node.specs.Agreement.{times}
 use Rattle.laws_node.proofs.Rising.{AllAbove, AllBelow, Rises}
@@ -25,9 +27,9 @@ use Rattle.laws_handlers.specs.EndPoints.{IsReceive}
 use Rattle.laws_handlers.proofs.NetMoves.{call_number}
 use Rattle.laws_handlers.proofs.Alike.{all_none}
 use Rattle.laws_handlers.proofs.KeepingRows.{only_receives, at_most_one}
-use Rattle.laws_handlers.proofs.Along.{Holds, taken_holds, opening_holds}
-use Rattle.laws_handlers.proofs.Numbered.{NodeNumbers, taken_numbers}
-use Rattle.laws_handlers.proofs.Rest.{Rests, taken_rests, opening_rests}
+use Rattle.laws_handlers.proofs.Along.{Holds, step_holds, opening_holds}
+use Rattle.laws_handlers.proofs.Numbered.{NodeNumbers, step_numbers}
+use Rattle.laws_handlers.proofs.Rest.{Rests, step_rests, opening_rests}
 
 -- ---- the calls stand in order
 
@@ -92,10 +94,21 @@ agree n g = record {
   holders = g.holds.free;
 }
 
+-- each admitted event keeps it
+pub step_good : (n : PlainNode) (event : NodeEvent) → is_admitted n event ≡ true → Good n → Good (node_step n event).0
+step_good n event e g = record { holds = step_holds n event e g.holds; rests = step_rests n event g.rests; numbers = step_numbers n event e g.holds g.numbers }
+
+taken_good : (n : PlainNode) (event : NodeEvent) → Good n → Good (taken n event)
+taken_good n event g = go (is_admitted n event) (λ e. step_good n event e g)
+  where
+    go : (b : Bool) → (b ≡ true → Good (node_step n event).0) → Good (elim b [ true ↦ (node_step n event).0 | false ↦ n ])
+    go true stepped = stepped refl
+    go false stepped = g
+
 -- what follows from it holds before and after each event
 pub good_along : (P : PlainNode → Type 0) → ((n : PlainNode) → Good n → P n) → (n : PlainNode) (es : List NodeEvent) → Good n → Along P n es
 good_along P follows n [] g = follows n g
-good_along P follows n (e ∷ es) g = (follows n g, good_along P follows (taken n e) es (record { holds = taken_holds n e g.holds; rests = taken_rests n e g.rests; numbers = taken_numbers n e g.holds g.numbers }))
+good_along P follows n (e ∷ es) g = (follows n g, good_along P follows (taken n e) es (taken_good n e g))
 
 pub opening_good : (conf : KConf) (addr : ℕ) (routines : List ObjId) → IsDeclarable conf → Good (opened_node conf addr routines)
 opening_good conf addr routines can = record { holds = opening_holds conf addr routines can; rests = opening_rests conf addr routines; numbers = record { once = λ number. omega arith; numbered = opened_numbered conf } }

@@ -1,5 +1,5 @@
 -- Over every list of events both parts of a node with handlers agree.
-use Rattle.std.proofs.Common.{◌≡◌, ◌≢◌, ℕ, ◌+◌, ◌≤◌, Bool, true, false, not, ◌&&◌, ◌||◌, List, Option, Some, None, is_some, refl, sym, ap, ◌∙◌, subst, inl, inr, arith}
+use Rattle.std.proofs.Common.{◌≡◌, ◌≢◌, ℕ, ◌+◌, ◌≤◌, true, false, not, ◌&&◌, ◌||◌, List, Option, Some, None, is_some, refl, sym, ap, ◌∙◌, subst, inl, inr, arith}
 use mathlib.Core.Logic.{◌⊎◌}
 use Rattle.std.specs.Prelude.{◌==◌}
 use Rattle.std.proofs.lemmas.Bool.{eqb-true, eq-eqb, and_parts, not-true}
@@ -47,7 +47,6 @@ use Rattle.laws_kernel.proofs.LastCalls.{call-last_call, tick-last_call}
 use Rattle.laws_kernel.proofs.Opened.{opened_stands}
 use Rattle.laws_node.proofs.KernelMoves.{call_grows, call_moves, tick_moves, tick_fewer}
 use Rattle.laws_node.proofs.Holders.{HoldersFree, holders_fewer, dropped_free}
-use Rattle.laws_handlers.specs.Taken.{taken}
 use Rattle.laws_handlers.proofs.RowActs.{either}
 use Rattle.laws_handlers.proofs.Waking.{Sound, WokenSound, settled_sound, unended_sound}
 use Rattle.laws_handlers.proofs.TakingOver.{Taken, net_taken, kernel_taken, timed_out_taken}
@@ -187,14 +186,7 @@ step_holds n Finish e h = finished_holds n h
 step_holds n Tick e h = ticked_holds n h
 step_holds n (Arrive bytes) e h = arrived_holds n bytes h
 
--- ---- any list of events
-
-pub taken_holds : (n : PlainNode) (event : NodeEvent) → Holds n → Holds (taken n event)
-taken_holds n event h = go (is_admitted n event) (λ e. step_holds n event e h)
-  where
-    go : (b : Bool) → (b ≡ true → Holds (node_step n event).0) → Holds (elim b [ true ↦ (node_step n event).0 | false ↦ n ])
-    go true stepped = stepped refl
-    go false stepped = h
+-- ---- the opening
 
 pub opening_holds : (conf : KConf) (addr : ℕ) (routines : List ObjId) → IsDeclarable conf → Holds (opened_node conf addr routines)
 opening_holds conf addr routines can = record {

@@ -55,7 +55,6 @@ use Rattle.laws_kernel.proofs.Numbers.{call_numbered, tick_numbered, due_numbere
 use Rattle.laws_node.specs.Agreement.{times}
 use Rattle.laws_node.proofs.Times.{times_end}
 use Rattle.laws_node.proofs.Rising.{AllBelow}
-use Rattle.laws_handlers.specs.Taken.{taken}
 use Rattle.laws_handlers.specs.Agreement.{tells_routine, is_routine_call, is_numbered}
 use Rattle.laws_handlers.proofs.RowActs.{either, row_acts}
 use Rattle.laws_handlers.proofs.NetMoves.{call_number, calls_of, settle_left}
@@ -300,10 +299,3 @@ step_numbers n Begin e h g = record { once = g.once; numbered = g.numbered }
 step_numbers n Finish e h g = g
 step_numbers n Tick e h g = ticked_numbers n g
 step_numbers n (Arrive bytes) e h g = going_numbers n.kernel n.net.pend _ _ (net_going n.kernel n.net.pend (arrive n.net bytes) (arrive_no_more n.net bytes)) g
-
-pub taken_numbers : (n : PlainNode) (event : NodeEvent) → Holds n → NodeNumbers n → NodeNumbers (taken n event)
-taken_numbers n event h g = go (is_admitted n event) (λ e. step_numbers n event e h g)
-  where
-    go : (b : Bool) → (b ≡ true → NodeNumbers (node_step n event).0) → NodeNumbers (elim b [ true ↦ (node_step n event).0 | false ↦ n ])
-    go true stepped = stepped refl
-    go false stepped = g

@@ -228,7 +228,8 @@ finished_rests : (n : PlainNode) → Rests n → Rests (finished n).0
 unfolding finished
 finished_rests n rest = record { kernel = rest.kernel; past = rest.past; net = rest.net }
 
-step_rests : (n : PlainNode) (event : NodeEvent) → Rests n → Rests (node_step n event).0
+-- each event keeps it, admitted or not
+pub step_rests : (n : PlainNode) (event : NodeEvent) → Rests n → Rests (node_step n event).0
 unfolding node_step
 step_rests n (Call ctx request) rest = called_rests n ctx request (kernel_of request) rest
 step_rests n (Return task) rest = returned_rests n task rest
@@ -239,7 +240,7 @@ step_rests n (Arrive bytes) rest = arrived_rests n bytes rest
 
 -- ---- any list of events
 
-pub taken_rests : (n : PlainNode) (event : NodeEvent) → Rests n → Rests (taken n event)
+taken_rests : (n : PlainNode) (event : NodeEvent) → Rests n → Rests (taken n event)
 taken_rests n event rest = go (is_admitted n event)
   where
     go : (b : Bool) → Rests (elim b [ true ↦ (node_step n event).0 | false ↦ n ])

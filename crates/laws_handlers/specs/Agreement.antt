@@ -33,9 +33,9 @@ is_numbered number w = w.call.0 == number
 
 -- Each task that waits outside the kernel made the waiting call of the network part that has its number and of whose end it is told,
 -- and the other way round. The calls stand in the order of their numbers, each at most the last one drawn, no two at one part of an
--- end point. One call at most has a number, of those that wait in the kernel and those of which routines are told: so none waits in the
--- kernel under the number of a call of which a routine is told. The list of runnable tasks has each active task that is neither suspended nor waits, once, and no
--- task waits twice. A task that holds an answer doesn't wait.
+-- end point. One call at most has a number, of those that wait in the kernel and those of which routines are told: so none waits in
+-- the kernel under the number of a call of which a routine is told. The list of runnable tasks has each active task that is neither
+-- suspended nor waits, once, and no task waits twice. A task that holds an answer doesn't wait.
 pub record PartsAgree (n : PlainNode) : Type 0 where
   pub same : (number id : ℕ) → times (is_outside_call number id) n.kernel.waits ≡ times (is_net_call number id) n.net.pend.calls
   pub in_order : PendKept n.net.pend
