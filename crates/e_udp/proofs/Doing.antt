@@ -1,239 +1,188 @@
--- What the code of each event does is what the specification says, for the end points that it began with: `before` are
--- the fields, and `named` is the state that the contract names.
-use Rattle.std.proofs.Common.{◌≡◌, ℕ, ◌<◌, true, false, length, get_or, List, [], ◌∷◌, ◌++◌, Option, None, Some, slice_get, refl, ap, sym, ◌∙◌, subst}
-use Rattle.std.specs.List.{position, remove}
-use Rattle.std.proofs.lemmas.List.{get_or_read}
+-- What the code of each call does is what the specification says, for the end points that it began with: `before` are the
+-- fields, and `named` is the state that the contract names.
+use Rattle.std.proofs.Common.{◌≡◌, ℕ, true, false, List, [], ◌∷◌, ◌++◌, length, Option, None, Some, refl, ap, sym, ◌∙◌, subst}
+use Rattle.it_types.specs.declared.answer.Ans.TheVariants as answers
 use Rattle.it_types.specs.declared.context.Ctx.{Ctx}
+use Rattle.it_types.specs.declared.entry.Out.{Out}
 use Rattle.it_types.specs.declared.er.Er.{Er}
-use Rattle.it_types.specs.declared.er.TheConstants.{E_OK, E_TMOUT}
+use Rattle.it_types.specs.declared.er.TheConstants.{E_DLT, E_OK, E_RLWAI}
+use Rattle.it_types.specs.declared.handler.FnCode.{FnCode}
+use Rattle.it_types.specs.declared.handler.FnCode.TheVariants as functions
 use Rattle.it_types.specs.declared.id.CallNo.{CallNo}
 use Rattle.it_types.specs.declared.id.CepId.{CepId}
 use Rattle.it_types.specs.declared.id.EndPt.{EndPt}
 use Rattle.it_types.specs.declared.id.ObjId.{ObjId}
 use Rattle.it_types.specs.declared.id.TaskId.{TaskId}
-use Rattle.it_types.specs.declared.timeout.Tmo.{Tmo}
 use Rattle.it_types.specs.declared.request.Req.{Req}
-use Rattle.it_types.specs.declared.request.Req.TheVariants.{UdpCreCep, UdpRcvDat}
-use Rattle.it_types.specs.Callers.{caller, is_poll}
+use Rattle.it_types.specs.declared.request.Req.TheVariants.{UdpCreCep, UdpDelCep, UdpSndDat, UdpCanCep}
+use Rattle.it_types.specs.declared.timeout.Tmo.{Tmo}
+use Rattle.it_types.specs.Callers.{is_nblk}
 use Rattle.spec_lists.specs.Refusal.{first_refusal}
 use Rattle.spec_lists.specs.Tables.{get, change}
-use Rattle.spec_net.specs.declared.outcome.NetAnswer.TheVariants.{Now, Pends, Quiet}
-use Rattle.spec_net.specs.declared.outcome.NetEnd.{NetEnd}
-use Rattle.spec_net.specs.declared.point.Received.{Received}
-use Rattle.spec_net.specs.declared.point.UdpPoint.{UdpPoint}
-use Rattle.spec_net.specs.declared.pending.NetCall.{NetCall}
-use Rattle.spec_net.specs.declared.pending.PendingRequest.TheVariants.{UdpReceive}
-use Rattle.spec_net.specs.PlainNet.{PlainNet, NetOutcome}
-use Rattle.spec_net.specs.Packets.{sent_packet}
-use Rattle.spec_net.specs.Receiving.{count_code, queue_of, receive_bytes, receive_code, rest_of, without_oldest}
-use Rattle.spec_net.specs.NetSettle.{NetAtRest, first_ready}
-use Rattle.spec_net.specs.UdpRows.{answered, carried_out, local_port, net_call, received, refusals, sent, waiting, with_point}
-use Rattle.spec_net.specs.Arrival.{given, quiet}
-use Rattle.spec_net.specs.NetEnds.{ended, ended_at, end_with, has_number}
-use Rattle.spec_net.proofs.RowCases.{ended_row, net_call_carried_out, net_call_refused}
-use Rattle.e_udp.specs.declared.out.Out.{Out}
+use Rattle.spec_udp.specs.Packets.{sent_packet}
+use Rattle.spec_udp.specs.Receiving.{count_code}
+use Rattle.spec_pend.specs.declared.call.Who.TheVariants as whos
+use Rattle.spec_pend.specs.declared.answer.NetAnswer.TheVariants.{Later}
+use Rattle.spec_pend.specs.declared.slot.Slot.{Slot}
+use Rattle.spec_pend.specs.PlainPend.{PlainPend, no_endings}
+use Rattle.spec_pend.specs.Ends.{ended_where}
+use Rattle.spec_pend.specs.Slots.{numbered}
+use Rattle.spec_pend.specs.Slots as slots
+use Rattle.spec_udp.specs.declared.point.UdpPoint.{UdpPoint}
+use Rattle.spec_udp.specs.PlainUdps.{PlainUdps, UdpSide, UdpOutcome}
+use Rattle.spec_udp.specs.Points.{local_port, new_point, routine_at, sending_at, with_sending}
+use Rattle.spec_udp.specs.Ports.{port_for}
+use Rattle.spec_udp.specs.Settling.{UdpAtRest, settled}
+use Rattle.spec_udp.specs.Rows.{accepted, accepted_answer, answered, cancelled, carried_out, deleted, made, refusals, sending, sent, slot_of, udp_call, who_is_told, with_point}
+use Rattle.spec_udp.specs.Outside.{ended}
+use Rattle.spec_udp.proofs.RowCases.{cancelled_settles, deleted_settles, ended_settles, made_settles, udp_call_carried_out, udp_call_refused}
+use Rattle.spec_udp.proofs.Settling.{ended_rests, settled_none, settled_rests, udp_call_rests}
 use Rattle.e_udp.specs.Contexts.{context_of}
-use Rattle.e_udp.specs.Deliveries.{with_datagram}
-use Rattle.e_udp.specs.Does.{Does}
+use Rattle.e_udp.specs.Does.{Does, side, no_number}
+use Rattle.e_udp.specs.Shows.{Shows, alone, begun_and_ended, ended_with, without_packets}
+use Rattle.e_udp.proofs.Allowed.{IsThere, may_send}
 use Rattle.e_udp.proofs.Callers.{caller_is}
-use Rattle.e_udp.proofs.Keeping.{taken_nowhere}
-use Rattle.spec_lists.proofs.Outcomes.{by_outcome}
-use Rattle.spec_lists.proofs.Places.{place_found, no_place}
+use Rattle.e_udp.proofs.NonBlocking.{send_ends}
+use Rattle.e_udp.proofs.Searches.{without_bytes}
+
+-- ---- any event
+
+-- what settles leaves no call ready
+pub settled_leaves : {after : UdpSide} {number : CallNo} {out : Out} (o : UdpOutcome) → Does after number out (settled o) → UdpAtRest after
+settled_leaves o does = subst UdpAtRest (sym does.state) (settled_rests o)
+
+pub call_leaves : {after : UdpSide} {number : CallNo} {out : Out} (s : UdpSide) (ctx : Ctx) (request : Req) → Does after number out (udp_call s ctx request number) → UdpAtRest after
+call_leaves {number = number} s ctx request does = subst UdpAtRest (sym does.state) (udp_call_rests s ctx request number)
 
 -- what is done by an outcome is done by one that is equal to it
-pub does_same : {after : PlainNet} {out : Out} {o p : NetOutcome} → p ≡ o → Does after out o → Does after out p
-does_same {after} {out} e does = subst (λ r. Does after out r) (sym e) does
-
--- a state is at rest as its fields are
-pub rests : {before named : PlainNet} → before ≡ named → NetAtRest before → NetAtRest named
-rests same rest = ap first_ready (sym same) ∙ rest
-
--- ---- queues
-
-oldest_there : (queue : List Received) (d : Received) → slice_get queue 0 ≡ Some d → queue ≡ d ∷ rest_of queue
-oldest_there [] d e = cc
-oldest_there (x ∷ xs) d e = ap (λ y. y ∷ xs) (same e)
-  where
-    same : Some x ≡ Some d → x ≡ d
-    same e = cc
-
-pub none_there : (queue : List Received) → slice_get queue 0 ≡ None → queue ≡ []
-none_there [] e = refl
-none_there (x ∷ xs) e = cc
-
--- ---- the rows
+pub does_same : {after : UdpSide} {number : CallNo} {out : Out} {o p : UdpOutcome} → p ≡ o → Does after number out o → Does after number out p
+does_same {after} {number} {out} e does = subst (λ r. Does after number out r) (sym e) does
 
 -- a refused call
-pub refused_does : {net : PlainNet} {out : Out} (ctx : Ctx) (request : Req) (number : CallNo) (code : Er)
-    → NetAtRest net
-    → Some code ≡ first_refusal (refusals net ctx request)
-    → ((n : PlainNet) → Does n out (answered n code []))
-    → Does net out (net_call net ctx request number)
-refused_does {net} ctx request number code rest is tells = does_same (net_call_refused net ctx request number code rest (sym is)) (tells net)
+pub refused_does : {s : UdpSide} {out : Out} (ctx : Ctx) (request : Req) (number : CallNo) (code : Er)
+    → UdpAtRest s
+    → Some code ≡ first_refusal (refusals s ctx request)
+    → out ≡ alone (answers.Now code [])
+    → Does s number out (udp_call s ctx request number)
+refused_does {s} ctx request number code rest is told = does_same (udp_call_refused s ctx request number code rest (sym is)) (record { state = refl; told = told })
 
--- a call that is carried out
-pub carried_out_does : {after : PlainNet} {out : Out} (net : PlainNet) (ctx : Ctx) (request : Req) (number : CallNo)
-    → NetAtRest net
-    → None ≡ first_refusal (refusals net ctx request)
-    → Does after out (carried_out net ctx request number)
-    → Does after out (net_call net ctx request number)
-carried_out_does net ctx request number rest is does = does_same (net_call_carried_out net ctx request number rest (sym is)) does
+module _ {before named : PlainUdps} (lent : PlainPend) (same : before ≡ named) (rest : UdpAtRest (side named lent)) where
+  rest_before : UdpAtRest (side before lent)
+  rest_before = subst (λ u. UdpAtRest (side u lent)) (sym same) rest
 
-module _ {addr : ℕ} {udp : List (Option UdpPoint)} {calls : List NetCall} {named : PlainNet} (same : record { addr = addr; udp = udp; calls = calls } ≡ named) where
-  abbrev pub before : PlainNet
-  before = record { addr = addr; udp = udp; calls = calls }
-
-  row_does : {after : PlainNet} {out : Out} (ctx : Ctx) (request : Req) (number : CallNo) (o : NetOutcome)
-      → NetAtRest before
-      → first_refusal (refusals named ctx request) ≡ None
-      → carried_out before ctx request number ≡ o
-      → after ≡ o.net
-      → Does o.net out o
-      → Does after out (net_call named ctx request number)
-  row_does {after} {out} ctx request number o rest allowed outcome net does =
-      by_outcome Does (λ (o : NetOutcome). o.net) (λ n. net_call n ctx request number) before named after out o same
-      (net_call_carried_out before ctx request number rest (ap (λ n. first_refusal (refusals n ctx request)) same ∙ allowed) ∙ outcome) net does
+  -- a call that is carried out, and has this outcome
+  pub carried_out_does : {after : UdpSide} {out : Out} (ctx : Ctx) (request : Req) (number : CallNo) (o : UdpOutcome)
+      → first_refusal (refusals (side named lent) ctx request) ≡ None
+      → settled (carried_out (side before lent) ctx request number) ≡ o
+      → Does after number out o
+      → Does after number out (udp_call (side named lent) ctx request number)
+  carried_out_does {after} {out} ctx request number o allowed outcome does =
+      subst (λ u. Does after number out (udp_call (side u lent) ctx request number)) same
+      (does_same (udp_call_carried_out (side before lent) ctx request number (subst (λ u. first_refusal (refusals (side u lent) ctx request) ≡ None) (sym same) allowed) ∙ outcome) does)
 
   -- an end point is made
-  pub making_does : {udp_after : List (Option UdpPoint)} {out : Out} (ctx : Ctx) (cep : CepId) (port : ℕ) (cbr : ObjId) (number : CallNo)
-      → NetAtRest before
-      → first_refusal (refusals named ctx (UdpCreCep cep port cbr)) ≡ None
-      → udp_after ≡ with_point udp cep port cbr
-      → ((n : PlainNet) → Does n out (answered n E_OK []))
-      → Does (record { addr = addr; udp = udp_after; calls = calls }) out (net_call named ctx (UdpCreCep cep port cbr) number)
-  making_does ctx cep port cbr number rest allowed e tells =
-      row_does ctx (UdpCreCep cep port cbr) number (answered (record before { udp = with_point udp cep port cbr }) E_OK []) rest allowed refl
-      (ap (λ u. record { addr = addr; udp = u; calls = calls }) e) (tells _)
+  pub making_does : {points : List (Option UdpPoint)} {out : Out} (ctx : Ctx) (cep : CepId) (port : ℕ) (cbr : ObjId) (number : CallNo)
+      → first_refusal (refusals (side named lent) ctx (UdpCreCep cep port cbr)) ≡ None
+      → points ≡ change before.points cep.0 (λ _. Some (new_point (port_for before.points port) cbr))
+      → out ≡ alone (answers.Now E_OK [])
+      → Does (side (record before { points = points }) lent) number out (udp_call (side named lent) ctx (UdpCreCep cep port cbr) number)
+  making_does ctx cep port cbr number allowed e told =
+      carried_out_does ctx (UdpCreCep cep port cbr) number (made (side before lent) cep port cbr) allowed (made_settles (side before lent) cep port cbr rest_before)
+      (record { state = ap (λ w. side (record before { points = w }) lent) e; told = told })
+
+  -- the call ends that a deletion or a cancel names
+  shows_named : {left : PlainPend} {out : Out} (after : PlainUdps) (number : CallNo) (cep : CepId) (func : FnCode) (code : Er)
+      → Shows left out (answers.Now E_OK []) (ended_with (no_endings lent) (slots.named lent true cep func) code [])
+      → Does (side after left) number out (record (answered (side after lent) E_OK []) { endings = ended_where (no_endings lent) (slots.named lent true cep func) code })
+  shows_named after number cep func code shows =
+      let same_end = without_bytes (no_endings lent) (slots.named lent true cep func) code in
+      record { state = ap (side after) (shows.left ∙ ap (λ e. e.pend) same_end); told = shows.told ∙ ap (without_packets (answers.Now E_OK [])) same_end }
+
+  -- an end point is deleted
+  pub deleting_does : {points : List (Option UdpPoint)} {left : PlainPend} {out : Out} (ctx : Ctx) (cep : CepId) (number : CallNo)
+      → first_refusal (refusals (side named lent) ctx (UdpDelCep cep)) ≡ None
+      → points ≡ change before.points cep.0 (λ _. None)
+      → Shows left out (answers.Now E_OK []) (ended_with (no_endings lent) (slots.named lent true cep functions.All) E_DLT [])
+      → Does (side (record before { points = points }) left) number out (udp_call (side named lent) ctx (UdpDelCep cep) number)
+  deleting_does {points} {left} {out} ctx cep number allowed e shows =
+      carried_out_does ctx (UdpDelCep cep) number (deleted (side before lent) cep) allowed (deleted_settles (side before lent) cep rest_before)
+      (subst (λ w. Does (side (record before { points = w }) left) number out (deleted (side before lent) cep)) (sym e) (shows_named (record before { points = change before.points cep.0 (λ _. None) }) number cep functions.All E_DLT shows))
+
+  -- a call is canceled
+  pub canceling_does : {left : PlainPend} {out : Out} (ctx : Ctx) (cep : CepId) (func : FnCode) (number : CallNo)
+      → first_refusal (refusals (side named lent) ctx (UdpCanCep cep func)) ≡ None
+      → Shows left out (answers.Now E_OK []) (ended_with (no_endings lent) (slots.named lent true cep func) E_RLWAI [])
+      → Does (side before left) number out (udp_call (side named lent) ctx (UdpCanCep cep func) number)
+  canceling_does ctx cep func number allowed shows =
+      carried_out_does ctx (UdpCanCep cep func) number (cancelled (side before lent) cep func) allowed (cancelled_settles (side before lent) cep func rest_before) (shows_named before number cep func E_RLWAI shows)
+
+  -- ---- sending
 
   -- a packet goes out
-  pub sending_does : {out : Out} (cep : CepId) (dest : EndPt) (load : List ℕ) (code : Er) (packet : List ℕ)
+  pub sending_does : {out : Out} (ctx : Ctx) (cep : CepId) (dest : EndPt) (load : List ℕ) (tmo : Tmo) (number : CallNo)
+      → first_refusal (refusals (side named lent) ctx (UdpSndDat cep dest load tmo)) ≡ None
+      → is_nblk tmo ≡ false
+      → out ≡ record (alone (answers.Now (count_code (length load)) [])) { packs = sent_packet before.addr (local_port (get before.points cep.0)) dest load ∷ [] }
+      → Does (side before lent) number out (udp_call (side named lent) ctx (UdpSndDat cep dest load tmo) number)
+  sending_does ctx cep dest load tmo number allowed now told =
+      carried_out_does ctx (UdpSndDat cep dest load tmo) number (sent (side before lent) cep dest load) allowed
+      (rw now (settled_none (sent (side before lent) cep dest load) rest_before)) (record { state = refl; told = told })
+
+  -- the call is accepted, and ends at once with its packet
+  pub sending_later_does : {left : PlainPend} {slot : Slot} {out told : Out} (by : TaskId) (cep : CepId) (dest : EndPt) (load : List ℕ) (tmo : Tmo) (number : CallNo) (cbr : ObjId) (code : Er) (packet : List ℕ)
+      → first_refusal (refusals (side named lent) (context_of by) (UdpSndDat cep dest load tmo)) ≡ None
+      → slot ≡ slot_of cep functions.UdpSnd
+      → is_nblk tmo ≡ true
+      → cbr ≡ routine_at (get before.points cep.0)
+      → sending_at (get before.points cep.0) ≡ None
       → code ≡ count_code (length load)
-      → packet ≡ sent_packet addr (local_port (get udp cep.0)) dest load
-      → ((n : PlainNet) → Does n out (record { net = n; answer = Now code []; ends = []; packets = packet ∷ [] }))
-      → Does named out (sent named (get named.udp cep.0) dest load)
-  sending_does {out} cep dest load code packet c p tells =
-      subst (λ (n : PlainNet). Does n out (sent n (get n.udp cep.0) dest load)) same
-      (subst (λ (k : Er). Does before out (record { net = before; answer = Now k []; ends = []; packets = sent_packet addr (local_port (get udp cep.0)) dest load ∷ [] })) c
-      (subst (λ (k : List ℕ). Does before out (record { net = before; answer = Now code []; ends = []; packets = k ∷ [] })) p (tells before)))
-
-  -- the oldest datagram is taken
-  pub taking_does : {udp_after : List (Option UdpPoint)} {out : Out} (ctx : Ctx) (cep : CepId) (len : ℕ) (tmo : Tmo) (number : CallNo) (d : Received) (code : Er) (bytes : List ℕ)
-      → NetAtRest before
-      → first_refusal (refusals named ctx (UdpRcvDat cep len tmo)) ≡ None
-      → Some d ≡ slice_get (queue_of (get udp cep.0)) 0
-      → udp_after ≡ change udp cep.0 without_oldest
-      → code ≡ receive_code len d
-      → bytes ≡ receive_bytes len d
-      → ((n : PlainNet) → Does n out (answered n code bytes))
-      → Does (record { addr = addr; udp = udp_after; calls = calls }) out (net_call named ctx (UdpRcvDat cep len tmo) number)
-  taking_does {udp_after} {out} ctx cep len tmo number d code bytes rest allowed oldest u c b tells =
-      row_does ctx (UdpRcvDat cep len tmo) number (answered taken (receive_code len d) (receive_bytes len d)) rest allowed
-      (ap (received before (caller ctx) cep len tmo number) (oldest_there (queue_of (get udp cep.0)) d (sym oldest)))
-      (ap (λ w. record { addr = addr; udp = w; calls = calls }) u)
-      (subst (λ (k : Er). Does taken out (answered taken k (receive_bytes len d))) c (subst (λ (k : List ℕ). Does taken out (answered taken code k)) b (tells taken)))
+      → packet ≡ sent_packet before.addr (local_port (get before.points cep.0)) dest load
+      → Shows left told (answers.Later number) (begun_and_ended lent (whos.Callback by cbr) slot number code [])
+      → out ≡ record told { packs = told.packs ++ packet ∷ [] }
+      → Does (side named left) number out (udp_call (side named lent) (context_of by) (UdpSndDat cep dest load tmo) number)
+  sending_later_does {left} {slot} {out} {told} by cep dest load tmo number cbr code packet allowed at later routine idle c e shows told_is =
+      subst (λ u. Does (side u left) number out (udp_call (side named lent) (context_of by) (UdpSndDat cep dest load tmo) number)) same
+      (carried_out_does (context_of by) (UdpSndDat cep dest load tmo) number (outcome (slot_of cep functions.UdpSnd) point.routine (count_code (length load)) (sent_packet before.addr point.port dest load)) allowed settles
+      (subst (λ (o : UdpOutcome). Does (side before left) number out o) with_those (record { state = ap (side before) shows.left; told = told_is ∙ ap (λ (t : Out). record t { packs = t.packs ++ packet ∷ [] }) shows.told })))
     where
-      taken : PlainNet
-      taken = record before { udp = change udp cep.0 without_oldest }
+      place : IsThere (side before lent) cep
+      place = (may_send (side before lent) (context_of by) cep dest load tmo (subst (λ u. first_refusal (refusals (side u lent) (context_of by) (UdpSndDat cep dest load tmo)) ≡ None) (sym same) allowed)).place
 
-  -- no datagram is there
-  unmet_does : {after : PlainNet} {out : Out} (ctx : Ctx) (cep : CepId) (len : ℕ) (tmo : Tmo) (number : CallNo) (o : NetOutcome)
-      → NetAtRest before
-      → first_refusal (refusals named ctx (UdpRcvDat cep len tmo)) ≡ None
-      → None ≡ slice_get (queue_of (get udp cep.0)) 0
-      → received before (caller ctx) cep len tmo number [] ≡ o
-      → after ≡ o.net
-      → Does o.net out o
-      → Does after out (net_call named ctx (UdpRcvDat cep len tmo) number)
-  unmet_does ctx cep len tmo number o rest allowed none outcome net does =
-      row_does ctx (UdpRcvDat cep len tmo) number o rest allowed
-      (ap (received before (caller ctx) cep len tmo number) (none_there (queue_of (get udp cep.0)) (sym none)) ∙ outcome) net does
+      point : UdpPoint
+      point = place.point
 
-  unchanged : {udp_after : List (Option UdpPoint)} (cep : CepId) → None ≡ slice_get (queue_of (get udp cep.0)) 0 → udp_after ≡ change udp cep.0 without_oldest → udp_after ≡ udp
-  unchanged cep none u = u ∙ taken_nowhere udp cep.0 (none_there (queue_of (get udp cep.0)) (sym none))
+      outcome : Slot → ObjId → Er → List ℕ → UdpOutcome
+      outcome w r k q = record { udps = before; endings = begun_and_ended lent (whos.Callback by r) w number k []; answer = Later; packets = q ∷ [] }
 
-  -- a poll is over
-  pub poll_does : {udp_after : List (Option UdpPoint)} {out : Out} (ctx : Ctx) (cep : CepId) (len : ℕ) (tmo : Tmo) (number : CallNo)
-      → NetAtRest before
-      → first_refusal (refusals named ctx (UdpRcvDat cep len tmo)) ≡ None
-      → None ≡ slice_get (queue_of (get udp cep.0)) 0
-      → udp_after ≡ change udp cep.0 without_oldest
-      → is_poll tmo ≡ true
-      → ((n : PlainNet) → Does n out (answered n E_TMOUT []))
-      → Does (record { addr = addr; udp = udp_after; calls = calls }) out (net_call named ctx (UdpRcvDat cep len tmo) number)
-  poll_does ctx cep len tmo number rest allowed none u poll tells =
-      unmet_does ctx cep len tmo number (answered before E_TMOUT []) rest allowed none (rw poll refl)
-      (ap (λ w. record { addr = addr; udp = w; calls = calls }) (unchanged cep none u)) (tells before)
+      with_those : outcome slot cbr code packet ≡ outcome (slot_of cep functions.UdpSnd) point.routine (count_code (length load)) (sent_packet before.addr point.port dest load)
+      with_those =
+          ap (λ w. outcome w cbr code packet) at
+          ∙ ap (λ r. outcome (slot_of cep functions.UdpSnd) r code packet) (routine ∙ ap routine_at place.there)
+          ∙ ap (λ k. outcome (slot_of cep functions.UdpSnd) point.routine k packet) c
+          ∙ ap (outcome (slot_of cep functions.UdpSnd) point.routine (count_code (length load))) (e ∙ ap (λ o. sent_packet before.addr (local_port o) dest load) place.there)
 
-  -- the call waits
-  pub waiting_does : {udp_after : List (Option UdpPoint)} {calls_after : List NetCall} {out : Out} (by : TaskId) (cep : CepId) (len : ℕ) (tmo : Tmo) (number : CallNo)
-      → NetAtRest before
-      → first_refusal (refusals named (context_of by) (UdpRcvDat cep len tmo)) ≡ None
-      → None ≡ slice_get (queue_of (get udp cep.0)) 0
-      → udp_after ≡ change udp cep.0 without_oldest
-      → calls_after ≡ calls ++ record { call = number; who = by; request = UdpReceive cep len } ∷ []
-      → is_poll tmo ≡ false
-      → ((n : PlainNet) → Does n out (record { net = n; answer = Pends; ends = []; packets = [] }))
-      → Does (record { addr = addr; udp = udp_after; calls = calls_after }) out (net_call named (context_of by) (UdpRcvDat cep len tmo) number)
-  waiting_does {calls_after = calls_after} by cep len tmo number rest allowed none u e waits tells =
-      unmet_does (context_of by) cep len tmo number (waiting before by (UdpReceive cep len) number) rest allowed none
-      (rw waits (ap (λ w. waiting before w (UdpReceive cep len) number) (caller_is by)))
-      (ap (λ w. record { addr = addr; udp = w; calls = calls_after }) (unchanged cep none u) ∙ ap (λ w. record { addr = addr; udp = udp; calls = w }) e) (tells _)
+      to_later : sending (side before lent) by cep dest load tmo number ≡ accepted (with_point (side before lent) cep (with_sending (Some (record { dest = dest; load = load })))) by cep functions.UdpSnd tmo number
+      to_later = rw later refl
 
-  -- ---- ends from outside
+      ended_so : record { udps = before; endings = begun_and_ended lent (who_is_told by point.routine tmo) (slot_of cep functions.UdpSnd) number (count_code (length load)) []; answer = accepted_answer tmo; packets = sent_packet before.addr point.port dest load ∷ [] } ≡ outcome (slot_of cep functions.UdpSnd) point.routine (count_code (length load)) (sent_packet before.addr point.port dest load)
+      ended_so = rw later refl
 
-  -- the call of the number ends
-  pub ending_does : {calls_after : List NetCall} {out : Out} (number : CallNo) (code : Er) (i : ℕ) (x : NetCall) (end : NetEnd)
-      → NetAtRest before
-      → position (has_number number) calls ≡ Some i
-      → x ≡ get_or calls i x
-      → calls_after ≡ remove calls i
-      → end ≡ end_with code x
-      → ((n : PlainNet) → Does n out (record { net = n; answer = Quiet; ends = end ∷ []; packets = [] }))
-      → Does (record { addr = addr; udp = udp; calls = calls_after }) out (ended named number code)
-  ending_does {calls_after} {out} number code i x end rest at is e same_end tells =
-      by_outcome Does (λ (o : NetOutcome). o.net) (λ n. ended n number code) before named _ out (record (quiet left) { ends = end_with code x ∷ [] }) same
-      (ended_row before number code rest ∙ ap (ended_at before code) ((place_found (has_number number) calls i at).first x is))
-      (ap (λ w. record { addr = addr; udp = udp; calls = w }) e)
-      (subst (λ (k : NetEnd). Does left out (record { net = left; answer = Quiet; ends = k ∷ []; packets = [] })) same_end (tells left))
-    where
-      left : PlainNet
-      left = record before { calls = remove calls i }
+      settles : settled (carried_out (side before lent) (context_of by) (UdpSndDat cep dest load tmo) number) ≡ outcome (slot_of cep functions.UdpSnd) point.routine (count_code (length load)) (sent_packet before.addr point.port dest load)
+      settles =
+          ap (λ t. settled (sending (side before lent) t cep dest load tmo number)) (caller_is by)
+          ∙ ap settled to_later
+          ∙ send_ends (side before lent) by cep tmo number point place.there rest_before dest load (ap sending_at (sym place.there) ∙ idle)
+          ∙ ended_so
 
-  -- no call has the number
-  pub nothing_ends : {out : Out} (number : CallNo) (code : Er)
-      → NetAtRest before
-      → position (has_number number) calls ≡ None
-      → ((n : PlainNet) → Does n out (quiet n))
-      → Does named out (ended named number code)
-  nothing_ends {out} number code rest none tells =
-      subst (λ n. Does n out (ended n number code)) same
-      (does_same (ended_row before number code rest ∙ ap (ended_at before code) (no_place (has_number number) calls none)) (tells before))
+-- ---- ends from outside
 
-  -- ---- datagrams
+module _ (u : PlainUdps) (lent left : PlainPend) (number : CallNo) (code : Er) {out : Out} (rest : UdpAtRest (side u lent)) (shows : Shows left out answers.Quiet (ended_with (no_endings lent) (numbered lent number) code [])) where
+  -- a call ends
+  pub ending_does : Does (side u left) no_number out (ended (side u lent) number code)
+  ending_does =
+      let same_end = without_bytes (no_endings lent) (numbered lent number) code in
+      does_same (ended_settles (side u lent) number code rest) (record { state = ap (side u) (shows.left ∙ ap (λ e. e.pend) same_end); told = shows.told ∙ ap (without_packets answers.Quiet) same_end })
 
-  -- a datagram is given to the end point at a place
-  pub giving_does : {udp_after : List (Option UdpPoint)} {out : Out} (i : ℕ) (d : Received)
-      → udp_after ≡ change udp i (given d)
-      → ((n : PlainNet) → Does n out (quiet n))
-      → Does (record { addr = addr; udp = udp_after; calls = calls }) out (quiet (with_datagram named i d))
-  giving_does {udp_after} {out} i d u tells =
-      subst (λ n. Does (record { addr = addr; udp = udp_after; calls = calls }) out (quiet (with_datagram n i d))) same
-      (subst (λ w. Does (record { addr = addr; udp = w; calls = calls }) out (quiet (with_datagram before i d))) (sym u) (tells _))
-
-  -- the call at a place leaves with an end
-  pub leaving_does : {calls_after : List NetCall} {out : Out} (i : ℕ) (x : NetCall) (end : NetEnd) (end_for : NetCall → NetEnd)
-      → i < length named.calls
-      → x ≡ get_or calls i x
-      → calls_after ≡ remove calls i
-      → end ≡ end_for x
-      → ((n : PlainNet) → Does n out (record { net = n; answer = Quiet; ends = end ∷ []; packets = [] }))
-      → (call : NetCall)
-      → call ≡ get_or named.calls i call
-      → Does (record { addr = addr; udp = udp; calls = calls_after }) out (record { net = record named { calls = remove named.calls i }; answer = Quiet; ends = end_for call ∷ []; packets = [] })
-  leaving_does {calls_after} {out} i x end end_for inside is e same_end tells call at =
-      subst (λ (n : PlainNet). Does (record { addr = addr; udp = udp; calls = calls_after }) out (record { net = record n { calls = remove n.calls i }; answer = Quiet; ends = end_for call ∷ []; packets = [] })) same
-      (subst (λ (k : NetEnd). Does (record { addr = addr; udp = udp; calls = calls_after }) out (record { net = record before { calls = remove calls i }; answer = Quiet; ends = k ∷ []; packets = [] })) (same_end ∙ ap end_for (sym one))
-      (subst (λ (w : List NetCall). Does (record { addr = addr; udp = udp; calls = w }) out (record { net = record before { calls = remove calls i }; answer = Quiet; ends = end ∷ []; packets = [] })) (sym e) (tells _)))
-    where
-      one : call ≡ x
-      one = at ∙ sym (ap (λ (n : PlainNet). get_or n.calls i call) same) ∙ sym (get_or_read calls i x (subst (λ (n : PlainNet). i < length n.calls) (sym same) inside) is call)
+  -- and no other is ready
+  pub ending_leaves : UdpAtRest (side u left)
+  ending_leaves = subst UdpAtRest (sym ending_does.state) (ended_rests (side u lent) number code)

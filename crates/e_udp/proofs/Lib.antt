@@ -1,7 +1,9 @@
-pub mod Callers
+pub mod Allowed
 pub mod Delivering
+pub mod Callers
 pub mod Doing
 pub mod FreePorts
 pub mod FromWire
-pub mod Keeping
-pub mod Rising
+pub mod NonBlocking
+pub mod Searches
+pub mod Taking

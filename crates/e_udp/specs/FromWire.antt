@@ -1,7 +1,7 @@
 -- A user datagram of the code (RFC 768) as what an end point receives.
 use Rattle.std.specs.Prelude.{ℕ, Option, Some, None}
 use Rattle.net_udp.specs.declared.datagram.Udp.{Udp}
-use Rattle.spec_net.specs.Packets.{Arrived}
+use Rattle.spec_udp.specs.Packets.{Arrived}
 
 -- what is received of a datagram that came from an address
 abbrev pub came_from : ℕ → Option Udp → Option Arrived

@@ -1,6 +1,5 @@
 pub mod Contexts
-pub mod Deliveries
 pub mod Does
 pub mod FromWire
 pub mod Kept
-pub mod Order
+pub mod Shows

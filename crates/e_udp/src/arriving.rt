@@ -1,60 +1,69 @@
-ghost use Rattle.std.specs.Prelude.{◌≡◌, ◌<◌, [], ◌∷◌, Some, None, IfOk, length, slice_index_or};
-ghost use Rattle.std.specs.List.{remove};
-ghost use Rattle.spec_lists.specs.First.{take_first};
+ghost use Rattle.std.specs.Prelude.{◌≡◌, ◌≤◌, Some, Err, IfOk, IfSome, false, is_some, length, true};
+ghost use Rattle.it_types.specs.declared.handler.FnCode.{FnCode as AFnCode};
+ghost use Rattle.spec_lists.specs.Tables.{get};
 ghost use Rattle.net_ip4.specs.Shown.{shown};
-ghost use Rattle.spec_net.specs.declared.pending.NetCall.{NetCall as ANetCall};
-ghost use Rattle.spec_net.specs.Packets.{if_for};
-ghost use Rattle.spec_net.specs.NetSettle.{net_settled, received_end};
-ghost use Rattle.spec_net.specs.UdpRows.{is_receive_at};
-ghost use Rattle.spec_net.specs.Arrival.{after_arrival, quiet};
-ghost use Rattle.e_udp.specs.Does.{Does};
+ghost use Rattle.net_udp.specs.Shown as user;
+ghost use Rattle.spec_wire.specs.declared.udp.Bad.{Bad as ABad};
+ghost use Rattle.spec_wire.specs.Udp.{Reads, refusal};
+ghost use Rattle.spec_udp.specs.Packets.{if_for};
+ghost use Rattle.spec_pend.specs.Slots.{is_taken};
+ghost use Rattle.spec_udp.specs.Arrival.{after_arrival, at_point};
+ghost use Rattle.spec_udp.specs.Rows.{slot_of};
+ghost use Rattle.spec_udp.specs.Settling.{UdpAtRest, settled};
+ghost use Rattle.e_udp.specs.Does.{Does, no_number, side};
 ghost use Rattle.e_udp.specs.FromWire.{came_from};
-ghost use Rattle.e_udp.specs.Deliveries.{IsWithin, wanted, with_datagram};
 
-use crate::points::keep;
+use crate::Udps;
+use crate::points::{has_place, join, point_at, routine_at, wanted_at};
 use crate::ports::first_with;
 use crate::receiving::{receive_bytes, receive_code};
-use crate::sending::UDP_PROTOCOL;
-use crate::waits::{first_at, wanted};
-use crate::{NetEnd, Out, Udps};
-use it_types::{Bytes, CepId, EndPt, NoMemory};
+use crate::sending::{UDP_PROTOCOL, count_code};
+use crate::slots::{event_slot, receive_slot};
+use crate::telling::{alone, ending_at, is_waiting, telling};
+use e_pend::Pend;
+use it_types::{Ans, Bytes, CepId, EndPt, NoMemory, Out};
 use net_ip4::Datagram;
-use net_udp::Udp;
-use spec_net::{NetCall, Received};
+use net_udp::{Bad, Udp};
+use spec_udp::Received;
 use std::alloc::Global;
+
+// The user datagram that begins the bytes.
+fn decode(src: u32, dst: u32, bytes: &[u8]) -> Result<Udp<'_>, Bad>
+    ensures read { IfOk result (λ u. Reads src dst bytes.now (user.shown u)) }
+    ensures refused { (why : ABad) → result ≡ Err why → refusal src dst bytes.now ≡ Some why }
+    ensures size { IfOk result (λ u. length u.load.now ≤ 65535) }
+{
+    net_udp::decode(src, dst, bytes)
+}
 
 // The user datagram in a datagram for this address, if it has one.
 fn user_datagram<'a>(addr: u32, d: &Datagram<'a>) -> Option<Udp<'a>>
-    ensures { if_for addr (shown d.now) ≡ came_from d.now.src result }
+    ensures read { if_for addr (shown d.now) ≡ came_from d.now.src result }
+    ensures size { IfSome result (λ u. length u.load.now ≤ 65535) }
 {
     if d.dst != addr || d.proto != UDP_PROTOCOL {
         return None;
     }
-    match net_udp::decode(d.src, d.dst, d.load) {
+    match decode(d.src, d.dst, d.load) {
         Ok(user_datagram) => Some(user_datagram),
         Err(_) => None,
     }
 }
 
-// The end of a call that waited, by a datagram that has come.
-fn end_of(alloc: Global, call: NetCall, from: EndPt, load: &[u8]) -> Result<NetEnd, NoMemory>
-    requires { IsWithin call }
-    ensures { IfOk result (λ end. end ≡ received_end call (wanted call.request) (record { from = from; load = load.now } ∷ [])) }
-{
-    let len = wanted(call.request);
-    Ok(NetEnd {
-        call: call.call,
-        who: call.who,
-        code: receive_code(len, load),
-        bytes: receive_bytes(alloc, len, from, load)?,
-    })
-}
-
 impl Udps {
-    /// A datagram reaches the node (RFC 791): where it is a user datagram (RFC 768) for a port of this node, the call that
-    /// waits there ends with it, and without one it joins the end point's queue. All else is silently dropped.
-    pub fn arrive(&mut self, alloc: Global, d: &Datagram<'_>, _now: u64) -> Result<Out, NoMemory>
-        ensures { IfOk result (λ o. Does self.new o (net_settled (quiet (after_arrival self.old (if_for self.old.addr (shown d.now)))))) }
+    /// A datagram reaches the node (RFC 791). Where it is a user datagram (RFC 768) for a port of this node, the receive that waits
+    /// there ends with it; without one it joins the end point's queue of at most 8, and the callback routine, if there is
+    /// one, is told of it (ITRON TCP/IP API, the event `TEV_UDP_RCV_DAT`). All else is silently dropped.
+    pub fn arrive(
+        &mut self,
+        alloc: Global,
+        pend: &mut Pend,
+        d: &Datagram<'_>,
+        _now: u64,
+    ) -> Result<Out, NoMemory>
+        requires rest { UdpAtRest (side self.old pend.old) }
+        ensures does { IfOk result (λ o. Does (side self.new pend.new) no_number o (settled (after_arrival (side self.old pend.old) (if_for self.old.addr (shown d.now))))) }
+        ensures rest { IfOk result (λ _. UdpAtRest (side self.new pend.new)) }
     {
         match user_datagram(self.addr, d) {
             Some(user_datagram) => {
@@ -62,9 +71,9 @@ impl Udps {
                     addr: d.src,
                     port: user_datagram.from_port,
                 };
-                self.deliver(alloc, user_datagram.to_port, from, user_datagram.load)
+                self.deliver(alloc, pend, user_datagram.to_port, from, user_datagram.load)
             }
-            None => Ok(Out::quiet(alloc)),
+            None => Ok(alone(alloc, Ans::Quiet)),
         }
     }
 
@@ -72,54 +81,100 @@ impl Udps {
     fn deliver(
         &mut self,
         alloc: Global,
+        pend: &mut Pend,
         port: u16,
         from: EndPt,
         load: &[u8],
     ) -> Result<Out, NoMemory>
-        ensures { IfOk result (λ o. Does self.new o (net_settled (quiet (after_arrival self.old (Some (record { port = port; received = record { from = from; load = load.now } })))))) }
+        requires rest { UdpAtRest (side self.old pend.old) }
+        requires size { length load.now ≤ 65535 }
+        ensures { IfOk result (λ o. Does (side self.new pend.new) no_number o (settled (after_arrival (side self.old pend.old) (Some (record { port = port; received = record { from = from; load = load.now } }))))) }
     {
         match first_with(&self.points, port) {
-            Some(place) => match first_at(&self.calls, CepId(place as u32)) {
-                Some(waiting) => self.end_receive(alloc, waiting, from, load),
-                None => self.queue(alloc, place, from, load),
-            },
-            None => Ok(Out::quiet(alloc)),
+            Some(place) => self.give(alloc, pend, CepId(place as u32), from, load),
+            None => Ok(alone(alloc, Ans::Quiet)),
         }
     }
 
-    // The call at a place ends with a datagram.
-    fn end_receive(
+    // A datagram comes to an end point that is there.
+    fn give(
         &mut self,
         alloc: Global,
-        place: usize,
+        pend: &mut Pend,
+        cep: CepId,
         from: EndPt,
         load: &[u8],
     ) -> Result<Out, NoMemory>
-        requires { place < length self.old.calls }
-        ensures { IfOk result (λ o. (call : ANetCall) → call ≡ slice_index_or self.old.calls place call
-            → Does self.new o (record (quiet (record self.old { calls = remove self.old.calls place })) { ends = received_end call (wanted call.request) (record { from = from; load = load.now } ∷ []) ∷ [] })) }
+        requires rest { UdpAtRest (side self.old pend.old) }
+        requires there { is_some (get self.old.points cep.0) ≡ true }
+        requires size { length load.now ≤ 65535 }
+        ensures { IfOk result (λ o. Does (side self.new pend.new) no_number o (settled (at_point (side self.old pend.old) (record { from = from; load = load.now }) (Some cep)))) }
     {
-        let call = self.calls.remove(place);
-        let end = end_of(alloc, call, from, load)?;
-        Out::ending(alloc, end)
+        if is_waiting(pend, receive_slot(cep)) {
+            self.end_receive(alloc, pend, cep, from, load)
+        } else {
+            self.queue(alloc, pend, cep, from, load)
+        }
     }
 
-    // A datagram joins the queue of the end point at a place, at which no call waits.
+    // The receive that waits at an end point ends with a datagram.
+    fn end_receive(
+        &self,
+        alloc: Global,
+        pend: &mut Pend,
+        cep: CepId,
+        from: EndPt,
+        load: &[u8],
+    ) -> Result<Out, NoMemory>
+        requires rest { UdpAtRest (side self.now pend.old) }
+        requires there { is_some (get self.now.points cep.0) ≡ true }
+        requires waits { is_taken pend.old (slot_of cep AFnCode.UdpRcv) ≡ true }
+        ensures { IfOk result (λ o. Does (side self.now pend.new) no_number o (settled (at_point (side self.now pend.old) (record { from = from; load = load.now }) (Some cep)))) }
+    {
+        let len = wanted_at(point_at(&self.points, cep));
+        let bytes = receive_bytes(alloc, len, from, load)?;
+        let code = receive_code(len, load);
+        ending_at(
+            alloc,
+            pend,
+            receive_slot(cep),
+            code,
+            bytes.as_slice(),
+            Ans::Quiet,
+        )
+    }
+
+    // A datagram comes to an end point at which no receive waits.
     fn queue(
         &mut self,
         alloc: Global,
-        place: usize,
+        pend: &mut Pend,
+        cep: CepId,
         from: EndPt,
         load: &[u8],
     ) -> Result<Out, NoMemory>
-        requires { take_first (is_receive_at (record { 0 = place })) self.old.calls ≡ None }
-        ensures { IfOk result (λ o. Does self.new o (quiet (with_datagram self.old place (record { from = from; load = load.now })))) }
+        requires rest { UdpAtRest (side self.old pend.old) }
+        requires there { is_some (get self.old.points cep.0) ≡ true }
+        requires free { is_taken pend.old (slot_of cep AFnCode.UdpRcv) ≡ false }
+        requires size { length load.now ≤ 65535 }
+        ensures { IfOk result (λ o. Does (side self.new pend.new) no_number o (settled (at_point (side self.old pend.old) (record { from = from; load = load.now }) (Some cep)))) }
     {
-        let datagram = Received {
-            from,
-            load: Bytes::of(alloc, load)?,
-        };
-        keep(&mut self.points, place, datagram);
-        Ok(Out::quiet(alloc))
+        if !has_place(point_at(&self.points, cep)) {
+            return Ok(alone(alloc, Ans::Quiet));
+        }
+        let load_kept = Bytes::of(alloc, load)?;
+        join(
+            &mut self.points,
+            cep,
+            Received {
+                from,
+                load: load_kept,
+            },
+        );
+        let cbr = routine_at(point_at(&self.points, cep));
+        if cbr.0 == 0 {
+            return Ok(alone(alloc, Ans::Quiet));
+        }
+        telling(alloc, pend, cbr, event_slot(cep), count_code(load))
     }
 }

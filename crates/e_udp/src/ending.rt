@@ -1,30 +1,29 @@
 ghost use Rattle.std.specs.Prelude.{IfOk};
-ghost use Rattle.spec_net.specs.NetEnds.{ended};
-ghost use Rattle.e_udp.specs.Does.{Does};
+ghost use Rattle.spec_udp.specs.Outside.{ended};
+ghost use Rattle.spec_udp.specs.Settling.{UdpAtRest};
+ghost use Rattle.e_udp.specs.Does.{Does, no_number, side};
 
-use crate::waits::place_of;
-use crate::{NetEnd, Out, Udps};
-use it_types::{Bytes, CallNo, Er, NoMemory};
+use crate::Udps;
+use crate::telling::ending;
+use e_pend::Pend;
+use it_types::{Ans, CallNo, Er, NoMemory, Out};
 use std::alloc::Global;
 
 impl Udps {
-    /// The call of this number, which waits, ends with this code, as by its time-out (µITRON4.0 section 2.1). Where no
-    /// call of this number waits, nothing happens.
-    pub fn end(&mut self, alloc: Global, no: CallNo, code: Er, _now: u64) -> Result<Out, NoMemory>
-        ensures { IfOk result (λ o. Does self.new o (ended self.old no code)) }
+    /// The call of this number, which waits at an end point, ends with this code, by its time-out, a release or its task's end
+    /// (µITRON4.0 section 2.1). Where no call of this number waits, nothing happens.
+    pub fn end(
+        &mut self,
+        alloc: Global,
+        pend: &mut Pend,
+        no: CallNo,
+        code: Er,
+        _now: u64,
+    ) -> Result<Out, NoMemory>
+        requires rest { UdpAtRest (side self.old pend.old) }
+        ensures does { IfOk result (λ o. Does (side self.new pend.new) no_number o (ended (side self.old pend.old) no code)) }
+        ensures rest { IfOk result (λ _. UdpAtRest (side self.new pend.new)) }
     {
-        match place_of(&self.calls, no) {
-            Some(place) => {
-                let call = self.calls.remove(place);
-                let end = NetEnd {
-                    call: call.call,
-                    who: call.who,
-                    code,
-                    bytes: Bytes::new(alloc),
-                };
-                Out::ending(alloc, end)
-            }
-            None => Ok(Out::quiet(alloc)),
-        }
+        ending(alloc, pend, no, code, &[], Ans::Quiet)
     }
 }

@@ -1,22 +1,21 @@
-//! UDP end points of a node (ITRON TCP/IP API, the service calls on UDP), with the calls that wait for datagrams.
+//! UDP end points of a node (ITRON TCP/IP API, the service calls on UDP), to which the node's calls that wait are lent.
 #![tactic(auto)]
 
 mod arriving;
-mod calling;
+mod canceling;
 mod creating;
+mod deleting;
 mod ending;
-mod out;
 mod point;
 mod points;
 mod ports;
 mod receiving;
 mod refusals;
 mod sending;
+mod slots;
+mod telling;
 mod udps;
-mod waits;
 
-pub use out::Out;
 #[doc(hidden)]
 pub use point::Point;
-pub use spec_net::{NetAnswer, NetEnd};
 pub use udps::Udps;

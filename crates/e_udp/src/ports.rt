@@ -1,6 +1,7 @@
 ghost use Rattle.std.specs.Prelude.{◌≡◌, ◌≤◌, length};
 ghost use Rattle.std.specs.List.{position};
-ghost use Rattle.spec_net.specs.Ports.{has_port, is_taken, free_port, port_for};
+ghost use Rattle.spec_udp.specs.Ports.{is_taken, free_port, port_for};
+ghost use Rattle.spec_udp.specs.Points.{has_port};
 
 use crate::Point;
 use crate::points::has_port;

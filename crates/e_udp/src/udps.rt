@@ -1,30 +1,29 @@
-ghost use Rattle.std.specs.Prelude.{◌≡◌, ◌↔◌, true, IfOk, replicate};
-ghost use Rattle.spec_net.specs.PlainNet.{opened_net};
-ghost use Rattle.e_udp.specs.Order.{IsAbove};
+ghost use Rattle.std.specs.Prelude.{◌≡◌, IfOk, None, replicate};
+ghost use Rattle.spec_udp.specs.PlainUdps.{opened_udps};
 
 use crate::Point;
-use it_types::{CallNo, NoMemory, TABLE_PLACES};
-use spec_net::NetCall;
+use it_types::{NoMemory, ObjId, TABLE_PLACES};
 use std::alloc::Global;
 use std::marker::Model;
 
-/// The UDP end points of one node by their ids, and the calls that wait, in the order of their numbers.
+/// The UDP end points of one node by their ids. The calls that wait there are in the node's `Pend`, which is lent to each call.
+/// After `NoMemory` neither is used again, and nothing is said of what they hold.
 #[derive(Debug, Drop)]
 pub struct Udps {
     pub(crate) addr: u32,
+    pub(crate) routines: Vec<ObjId>,
     pub(crate) points: Vec<Option<Point>>,
-    pub(crate) calls: Vec<NetCall>,
 }
 
 impl Model for Udps {
-    ghost use Rattle.spec_net.specs.PlainNet.{PlainNet};
-    ghost use Rattle.e_udp.specs.Kept.{Kept};
+    ghost use Rattle.std.specs.Prelude.{◌≡◌, length};
+    ghost use Rattle.spec_udp.specs.PlainUdps.{PlainUdps};
 
-    ghost Value = { PlainNet };
+    ghost Value = { PlainUdps };
 
-    ghost view = { λ u. record { addr = u.addr; udp = u.points.items; calls = u.calls.items } };
+    ghost view = { λ u. record { addr = u.addr; routines = u.routines.items; points = u.points.items } };
 
-    ghost invariant = { λ u. Kept u.points.items u.calls.items };
+    ghost invariant = { λ u. length u.points.items ≡ 17 };
 }
 
 // A table with a place for each id, without end points.
@@ -39,23 +38,15 @@ fn empty_table(alloc: Global) -> Result<Vec<Option<Point>>, NoMemory>
 }
 
 impl Udps {
-    /// The end points of a node with this IPv4 address at its opening: there are none, and no call waits. No callback
-    /// routine can be declared yet.
-    pub fn open(alloc: Global, addr: u32) -> Result<Udps, NoMemory>
-        ensures { IfOk result (λ u. u ≡ opened_net addr) }
+    /// The end points of a node with this IPv4 address and these callback routines at its opening: there are none.
+    pub fn open(alloc: Global, addr: u32, cbrs: &[ObjId]) -> Result<Udps, NoMemory>
+        ensures { IfOk result (λ u. u ≡ opened_udps addr cbrs.now) }
     {
         let points = empty_table(alloc)?;
         Ok(Udps {
             addr,
+            routines: Vec::from_slice(alloc, cbrs)?,
             points,
-            calls: Vec::new(alloc),
         })
-    }
-
-    /// The number is above that of each call that waits.
-    pub fn is_above(&self, no: CallNo) -> bool
-        ensures { (result ≡ true) ↔ IsAbove no self.now.calls }
-    {
-        self.calls.iter().all(|call| call.call.0 < no.0)
     }
 }

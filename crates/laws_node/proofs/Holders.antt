@@ -1,18 +1,27 @@
 -- A task that holds an answer has no call that waits.
-use Rattle.std.proofs.Common.{◌≡◌, ℕ, zero, suc, true, false, List, [], ◌∷◌, slice_set, Option, Some, None, is_some, refl, sym, ap, ◌∙◌, inl, inr, arith}
+use Rattle.std.proofs.Common.{◌≡◌, ℕ, zero, suc, true, false, List, [], ◌∷◌, slice_set, Some, None, Option, is_some, refl, sym, ap, ◌∙◌, inl, inr, arith}
 use Rattle.std.specs.Prelude.{◌==◌}
-use Rattle.std.proofs.lemmas.Bool.{cases_Bool, cases_eq, ne_eqb}
+use Rattle.std.proofs.lemmas.Bool.{cases_Bool, cases_lt, cases_eq, ne_eqb}
 use Rattle.std.proofs.lemmas.List.{get_or-set_other}
 use Rattle.it_types.specs.declared.id.TaskId.{TaskId}
+use Rattle.it_types.specs.declared.er.Er.{Er}
+use Rattle.it_types.specs.declared.context.Ctx.{Ctx}
+use Rattle.it_types.specs.declared.context.Ctx.TheVariants as contexts
+use Rattle.it_types.specs.Callers.{caller}
 use Rattle.spec_lists.specs.Tables.{get}
 use Rattle.spec_lists.specs.Counting.{one_if}
 use Rattle.spec_kernel.specs.declared.reason.WaitingCall.{WaitingCall}
+use Rattle.spec_kernel.specs.TaskBlocks.{is_active}
+use Rattle.spec_kernel.specs.PlainKernel.{PlainKernel}
+use Rattle.spec_kernel.specs.Standing.{IsStanding}
+use Rattle.spec_pend.specs.declared.call.Who.{Who}
+use Rattle.spec_pend.specs.declared.call.Who.TheVariants as whos
+use Rattle.spec_pend.specs.declared.answer.NetEnd.{NetEnd}
 use Rattle.spec_node.specs.declared.held.Held.{Held}
-use Rattle.spec_node.specs.Progress.{TaskEnd}
-use Rattle.spec_node.specs.NodeStep.{holding, forgetting}
+use Rattle.spec_node.specs.NodeStep.{forgetting, holding, holding_one}
 use Rattle.laws_node.specs.Agreement.{times_waiting}
 use Rattle.laws_node.proofs.KernelMoves.{Fewer, Grows}
-use Rattle.laws_node.proofs.TakingOver.{AllFree}
+use Rattle.laws_node.proofs.Waking.{IsFree, AreFree}
 
 abbrev pub HoldersFree : List (Option Held) → List WaitingCall → Type 0
 HoldersFree held waits = (id : ℕ) → is_some (get held id) ≡ true → times_waiting id waits ≡ 0
@@ -27,16 +36,41 @@ holders_grown held before after t none grows h id there = elim (cases_eq t.0 id)
   | inr other ↦ omega (arith, grows id, h id there, ap one_if (ne_eqb t.0 id other))
 ]
 
+-- the task that calls holds no answer
+abbrev pub HoldsNone : List (Option Held) → Ctx → Type 0
+HoldsNone held ctx = (t : TaskId) → ctx ≡ contexts.Task t → is_some (get held t.0) ≡ false
+
+-- there is no task of the id 0
+pub nobody_waits : (k : PlainKernel) → IsStanding k → times_waiting 0 k.waits ≡ 0
+nobody_waits k s = elim (cases_lt 0 (times_waiting 0 k.waits)) [
+  | inl some ↦ absurd (let active : false ≡ true = sym (ap is_active s.nobody) ∙ s.active 0 (omega (arith, some)) in cc)
+  | inr none ↦ omega (arith, none)
+]
+
+-- after a call that makes its own task wait at most
+pub holders_called : (held : List (Option Held)) (before : List WaitingCall) (k : PlainKernel) (ctx : Ctx)
+    → IsStanding k
+    → HoldsNone held ctx
+    → Grows (caller ctx).0 before k.waits
+    → HoldersFree held before
+    → HoldersFree held k.waits
+holders_called held before k (contexts.Task t) s none grows h = holders_grown held before k.waits t (none t refl) grows h
+holders_called held before k contexts.Handler s none grows h = λ id there. elim (cases_eq 0 id) [
+  | inl same ↦ ap (λ i. times_waiting i k.waits) (sym same) ∙ nobody_waits k s
+  | inr other ↦ omega (arith, grows id, h id there, ap one_if (ne_eqb 0 id other))
+]
+
+holding_one_free : (who : Who) (code : Er) (bytes : List ℕ) (held : List (Option Held)) (waits : List WaitingCall) → IsFree who waits → HoldersFree held waits → HoldersFree (holding_one who code bytes held) waits
+holding_one_free (whos.Callback t cbr) code bytes held waits free h = h
+holding_one_free (whos.Task t) code bytes held waits free h = λ id there. elim (cases_eq id t.0) [
+  | inl same ↦ ap (λ i. times_waiting i waits) same ∙ free
+  | inr other ↦ h id (sym (ap is_some (get_or-set_other held t.0 id (Some (record { code = code; bytes = bytes })) None other)) ∙ there)
+]
+
 -- so it stays when the ends are held
-holding_free : (es : List TaskEnd) (held : List (Option Held)) (waits : List WaitingCall) → AllFree es waits → HoldersFree held waits → HoldersFree (holding es held) waits
+holding_free : (es : List NetEnd) (held : List (Option Held)) (waits : List WaitingCall) → AreFree es waits → HoldersFree held waits → HoldersFree (holding es held) waits
 holding_free [] held waits free h = h
-holding_free (e ∷ es) held waits free h = holding_free es (slice_set held e.task.0 (Some (record { code = e.code; bytes = e.bytes }))) waits free.1 one
-  where
-    one : HoldersFree (slice_set held e.task.0 (Some (record { code = e.code; bytes = e.bytes }))) waits
-    one id there = elim (cases_eq id e.task.0) [
-      | inl same ↦ ap (λ i. times_waiting i waits) same ∙ free.0
-      | inr other ↦ h id (sym (ap is_some (get_or-set_other held e.task.0 id (Some (record { code = e.code; bytes = e.bytes })) None other)) ∙ there)
-    ]
+holding_free (e ∷ es) held waits free h = holding_free es (holding_one e.who e.code e.bytes held) waits free.1 (holding_one_free e.who e.code e.bytes held waits free.0 h)
 
 cleared : (held : List (Option Held)) (i : ℕ) → is_some (get (slice_set held i None) i) ≡ false
 cleared [] zero = refl
@@ -58,5 +92,5 @@ forgetting_free gone held waits h = elim (cases_Bool (gone.0 == 0)) [
 ]
 
 -- after the event
-pub held_free : (es : List TaskEnd) (gone : TaskId) (held : List (Option Held)) (waits : List WaitingCall) → AllFree es waits → HoldersFree held waits → HoldersFree (forgetting gone (holding es held)) waits
+pub held_free : (es : List NetEnd) (gone : TaskId) (held : List (Option Held)) (waits : List WaitingCall) → AreFree es waits → HoldersFree held waits → HoldersFree (forgetting gone (holding es held)) waits
 held_free es gone held waits free h = forgetting_free gone (holding es held) waits (holding_free es held waits free h)

@@ -1,82 +1,85 @@
--- What an event of the network part does to its calls: those that end leave the list, and no other does.
-use Rattle.std.proofs.Common.{◌≡◌, ℕ, zero, suc, ◌+◌, ◌≤◌, Bool, true, ◌&&◌, List, [], ◌∷◌, ◌++◌, Option, Some, refl, ◌∙◌, ap, subst, inl, inr, arith}
-use mathlib.Core.Logic.{◌⊎◌}
+-- What settling of the network part does to its calls: those that end leave the list, and no other does.
+use Rattle.std.proofs.Common.{◌≡◌, ℕ, zero, suc, ◌+◌, ◌≤◌, Bool, true, ◌&&◌, List, [], ◌∷◌, ◌++◌, Some, refl, sym, ◌∙◌, ap, subst, inl, inr, arith}
 use Rattle.std.specs.Prelude.{◌==◌}
 use Rattle.std.proofs.lemmas.Bool.{cases_Bool, eqb-true, and_parts}
+use Rattle.std.proofs.lemmas.List.{append-nil, append_assoc}
+use Rattle.it_types.specs.declared.id.TaskId.{TaskId}
 use Rattle.it_types.specs.declared.id.CallNo.{CallNo}
-use Rattle.it_types.specs.declared.er.Er.{Er}
-use Rattle.it_types.specs.declared.er.TheConstants.{E_OK}
-use Rattle.it_types.specs.declared.context.Ctx.{Ctx}
-use Rattle.it_types.specs.declared.request.Req.{Req}
-use Rattle.it_types.specs.Callers.{caller}
 use Rattle.spec_lists.specs.Tables.{get}
 use Rattle.spec_lists.specs.First.{put_back, take_first}
 use Rattle.spec_lists.proofs.Firsts.{cases_of_first, at_first, past_first}
-use Rattle.spec_net.specs.declared.point.Received.{Received}
-use Rattle.spec_net.specs.declared.point.UdpPoint.{UdpPoint}
-use Rattle.spec_net.specs.declared.pending.NetCall.{NetCall}
-use Rattle.spec_net.specs.declared.pending.PendingRequest.{PendingRequest}
-use Rattle.spec_net.specs.declared.pending.PendingRequest.TheVariants.{UdpReceive}
-use Rattle.spec_net.specs.declared.outcome.NetAnswer.TheVariants.{Now, Pends}
-use Rattle.spec_net.specs.declared.outcome.NetEnd.{NetEnd}
-use Rattle.spec_net.specs.PlainNet.{PlainNet, NetOutcome}
-use Rattle.spec_net.specs.Receiving.{queue_of}
-use Rattle.spec_net.specs.NetSettle.{is_ready, first_ready, received_end, end_for, freed, settle}
-use Rattle.spec_net.specs.UdpRows.{row}
-use Rattle.spec_net.specs.NetEnds.{has_number}
-use Rattle.spec_net.proofs.NetActs.{row_acts}
-use Rattle.spec_lists.specs.Counting.{one_if}
+use Rattle.spec_pend.specs.declared.call.Who.{Who}
+use Rattle.spec_pend.specs.declared.call.Who.TheVariants as whos
+use Rattle.spec_pend.specs.declared.call.NetCall.{NetCall}
+use Rattle.spec_pend.specs.declared.answer.NetEnd.{NetEnd}
+use Rattle.spec_pend.specs.Slots.{has_number}
+use Rattle.spec_pend.specs.Ends.{end_of}
+use Rattle.spec_udp.specs.PlainUdps.{UdpOutcome, side_after}
+use Rattle.spec_udp.specs.Settling.{is_ready, first_ready, met_code, met_bytes, met, settle}
+use Rattle.laws_node.specs.Agreement.{times, tells, is_net_call}
 use Rattle.laws_node.proofs.Rising.{AllAbove, AllBelow, Rises, rises_found, below_found}
-use Rattle.laws_node.specs.Agreement.{times, is_net_call}
 use Rattle.laws_node.proofs.Times.{times_found, is_one}
 
 abbrev pub call_number : NetCall → ℕ
 call_number c = c.call.0
 
--- the end of the call of this number, which this task made
+-- the end of the call of this number, of which this task is told
 abbrev pub is_end_of : ℕ → ℕ → NetEnd → Bool
-is_end_of number id e = (e.call.0 == number) && (e.who.0 == id)
+is_end_of number id e = (e.call.0 == number) && tells id e.who
 
--- the calls before are those after and those that ended
-pub record Left (before after : List NetCall) (ends : List NetEnd) : Type 0 where
-  pub same : (number id : ℕ) → times (is_net_call number id) before ≡ times (is_net_call number id) after + times (is_end_of number id) ends
-  pub rises : Rises call_number before → Rises call_number after
-  pub below : (n : ℕ) → AllBelow call_number n before → AllBelow call_number n after
+abbrev pub calls_of : UdpOutcome → List NetCall
+calls_of o = o.endings.pend.calls
 
 -- ---- settling
 
-received_key : (number id : ℕ) (c : NetCall) (len : ℕ) (queue : List Received) → is_end_of number id (received_end c len queue) ≡ is_net_call number id c
-received_key number id c len [] = refl
-received_key number id c len (d ∷ ds) = refl
+-- the calls before are those after and those that ended in between
+pub record Left (o p : UdpOutcome) : Type 0 where
+  pub more : List NetEnd
+  pub told : p.endings.ends ≡ o.endings.ends ++ more
+  pub same : (number id : ℕ) → times (is_net_call number id) (calls_of o) ≡ times (is_net_call number id) (calls_of p) + times (is_end_of number id) more
+  pub rises : Rises call_number (calls_of o) → Rises call_number (calls_of p)
+  pub below : (n : ℕ) → AllBelow call_number n (calls_of o) → AllBelow call_number n (calls_of p)
+  pub last : p.endings.pend.last ≡ o.endings.pend.last
+  pub fewer : (f : NetCall → Bool) → times f (calls_of p) ≤ times f (calls_of o)
+  pub answer : p.answer ≡ o.answer
 
-end_key_for : (number id : ℕ) (udp : List (Option UdpPoint)) (c : NetCall) (w : PendingRequest) → is_end_of number id (end_for udp c w) ≡ is_net_call number id c
-end_key_for number id udp c (UdpReceive cep len) = received_key number id c len (queue_of (get udp cep.0))
+nothing_left : (o : UdpOutcome) → Left o o
+nothing_left o = record { more = []; told = sym (append-nil o.endings.ends); same = λ number id. omega arith; rises = λ h. h; below = λ n h. h; last = refl; fewer = λ f. omega arith; answer = refl }
 
-pub settle_left : (n : ℕ) (net : PlainNet) → Left net.calls (settle n net).0.calls (settle n net).1
+pub settle_left : (n : ℕ) (o : UdpOutcome) → Left o (settle n o)
 unfolding settle
-settle_left zero net = record { same = λ number id. omega arith; rises = λ h. h; below = λ m h. h }
-settle_left (suc n) net = elim (cases_of_first (first_ready net)) [
-  | inl e ↦ rw e (record { same = λ number id. omega arith; rises = λ h. h; below = λ m h. h })
+settle_left zero o = nothing_left o
+settle_left (suc n) o = elim (cases_of_first (first_ready (side_after o))) [
+  | inl e ↦ rw e (nothing_left o)
   | inr w ↦ (
       let z : NetCall × List NetCall = w.0 in
-      let rest = settle_left n (freed net z.0 z.1) in
+      let point = get o.udps.points z.0.slot.cep.0 in
+      let end : NetEnd = end_of z.0 (met_code point z.0.slot.part) (met_bytes point z.0.slot.part) in
+      let rest = settle_left n (met o z) in
       rw w.1 (record {
-        same = λ number id.
-            omega (arith, times_found (is_net_call number id) (is_ready net.udp) net.calls z w.1, rest.same number id, ap one_if (end_key_for number id net.udp z.0 z.0.request));
-        rises = λ h. rest.rises (rises_found call_number (is_ready net.udp) net.calls z w.1 h);
-        below = λ m h. rest.below m (below_found call_number m (is_ready net.udp) net.calls z w.1 h);
+        more = end ∷ rest.more;
+        told = rest.told ∙ append_assoc o.endings.ends (end ∷ []) rest.more;
+        same = λ number id. omega (arith, times_found (is_net_call number id) (is_ready o.udps) (calls_of o) z w.1, rest.same number id);
+        rises = λ h. rest.rises (rises_found call_number (is_ready o.udps) (calls_of o) z w.1 h);
+        below = λ m h. rest.below m (below_found call_number m (is_ready o.udps) (calls_of o) z w.1 h);
+        last = rest.last;
+        fewer = λ f. omega (arith, rest.fewer f, times_found f (is_ready o.udps) (calls_of o) z w.1);
+        answer = rest.answer;
       })
       )
 ]
 
 -- ---- the call of a number
 
-none_above : (number id : ℕ) (cs : List NetCall) → AllAbove call_number number cs → times (is_net_call number id) cs ≡ 0
-none_above number id [] above = refl
-none_above number id (c ∷ cs) above = elim (cases_Bool (is_net_call number id c)) [
-  | inl t ↦ absurd (omega (arith, above.0, eqb-true c.call.0 number (and_parts (c.call.0 == number) (c.who.0 == id) t).0))
-  | inr t ↦ rw t (omega (arith, none_above number id cs above.1))
+pub none_above : (p : NetCall → Bool) (number : ℕ) (cs : List NetCall) → ((c : NetCall) → p c ≡ true → c.call.0 ≡ number) → AllAbove call_number number cs → times p cs ≡ 0
+none_above p number [] its above = refl
+none_above p number (c ∷ cs) its above = elim (cases_Bool (p c)) [
+  | inl t ↦ absurd (omega (arith, above.0, its c t))
+  | inr t ↦ rw t (omega (arith, none_above p number cs its above.1))
 ]
+
+pub number_of : (number id : ℕ) (c : NetCall) → is_net_call number id c ≡ true → c.call.0 ≡ number
+number_of number id c e = eqb-true c.call.0 number (and_parts (c.call.0 == number) (tells id c.who) e).0
 
 -- where the task has a call of the number, that call is the one of the number
 pub numbered_is : (number : CallNo) (id : ℕ) (cs : List NetCall)
@@ -86,7 +89,7 @@ pub numbered_is : (number : CallNo) (id : ℕ) (cs : List NetCall)
 numbered_is number id [] rises le = absurd (omega (arith, le))
 numbered_is number id (c ∷ cs) rises le = elim (cases_Bool (c.call.0 == number.0)) [
   | inl t ↦ (
-      let zero = none_above number.0 id cs (subst (λ n. AllAbove call_number n cs) (eqb-true c.call.0 number.0 t) rises.0) in
+      let zero = none_above (is_net_call number.0 id) number.0 cs (number_of number.0 id) (subst (λ n. AllAbove call_number n cs) (eqb-true c.call.0 number.0 t) rises.0) in
       ((c, cs), at_first (has_number number) c cs t, is_one (is_net_call number.0 id c) (omega (arith, le, zero)))
       )
   | inr t ↦ (
@@ -96,18 +99,7 @@ numbered_is number id (c ∷ cs) rises le = elim (cases_Bool (c.call.0 == number
       )
 ]
 
--- ---- the rows
-
--- a row that waits puts its call last; any other answers, and leaves the calls as they are; none ends any
-abbrev pub Does : PlainNet → Ctx → CallNo → NetOutcome → Type 0
-Does net ctx number o =
-    (o.ends ≡ []) × (((o.answer ≡ Pends) × ((w : PendingRequest) × (o.net.calls ≡ net.calls ++ record { call = number; who = caller ctx; request = w } ∷ []))) ⊎ ((code : Er) × (bytes : List ℕ) × (o.answer ≡ Now code bytes) × (o.net.calls ≡ net.calls)))
-
-pub row_does : (net : PlainNet) (ctx : Ctx) (request : Req) (number : CallNo) → Does net ctx number (row net ctx request number)
-row_does net ctx request number = row_acts (Does net ctx number) (record {
-  answers = λ code. (refl, inr (code, [], refl, refl));
-  makes = λ cep point none free empty. (refl, inr (E_OK, [], refl, refl));
-  sends = λ code packet. (refl, inr (code, [], refl, refl));
-  takes = λ cep code bytes. (refl, inr (code, bytes, refl, refl));
-  waits = λ cep len there none. (refl, inl (refl, (UdpReceive cep len, refl)));
-}) request
+-- the task that is told
+pub told_task : (id : ℕ) (who : Who) → tells id who ≡ true → (t : TaskId) × (who ≡ whos.Task t) × (t.0 ≡ id)
+told_task id (whos.Task t) e = (t, refl, eqb-true t.0 id e)
+told_task id (whos.Callback t cbr) e = absurd cc

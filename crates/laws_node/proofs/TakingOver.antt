@@ -1,5 +1,5 @@
 -- What the kernel did is taken over: both parts of a node agree afterwards, and no call of a task waits whose call ended.
-use Rattle.std.proofs.Common.{◌≡◌, ℕ, zero, suc, ◌+◌, ◌≤◌, false, ◌&&◌, List, [], ◌∷◌, ◌++◌, length, map, refl, sym, ◌∙◌, ap, subst, inl, inr, arith}
+use Rattle.std.proofs.Common.{◌≡◌, ℕ, zero, suc, ◌≤◌, false, ◌&&◌, List, [], ◌∷◌, ◌++◌, length, refl, sym, ◌∙◌, ap, subst, inl, inr, arith}
 use Rattle.std.specs.Prelude.{◌==◌}
 use Rattle.spec_lists.specs.Counting.{one_if}
 use Rattle.spec_lists.proofs.Firsts.{cases_of_first}
@@ -8,54 +8,33 @@ use Rattle.spec_kernel.specs.declared.reason.WaitingCall.{WaitingCall}
 use Rattle.spec_kernel.specs.PlainKernel.{PlainKernel}
 use Rattle.spec_kernel.specs.Settle.{Outcome, ending}
 use Rattle.spec_kernel.specs.Time.{due}
-use Rattle.spec_net.specs.declared.outcome.NetEnd.{NetEnd}
-use Rattle.spec_net.specs.NetEnds.{ended}
-use Rattle.spec_node.specs.Progress.{TaskEnd, Progress, kernel_end, net_end, after_net, after_end, after_ends, after_kernel, time_out, timed_out}
+use Rattle.spec_udp.specs.PlainUdps.{UdpOutcome}
+use Rattle.spec_udp.specs.Outside.{ended}
+use Rattle.spec_node.specs.Progress.{Progress, kernel_end, woken_by, after_net, after_end, after_ends, after_kernel, time_out, timed_out}
 use Rattle.laws_kernel.proofs.LastCalls.{due-last_call}
 use Rattle.laws_kernel.proofs.OutsideEnds.{AreInside}
-use Rattle.laws_node.specs.Agreement.{times_waiting, is_outside_call}
-use Rattle.laws_node.proofs.Rising.{below_more}
-use Rattle.laws_node.proofs.NetMoves.{call_number}
+use Rattle.laws_node.specs.Agreement.{is_outside_call}
 use Rattle.laws_node.proofs.KernelMoves.{Fewer, AreFree as KernelFree, free_fewer as kernel_fewer, Did, Moves, due_moves, due_fewer}
 use Rattle.laws_node.proofs.KernelMoves.Did.{none, one}
-use Rattle.laws_node.proofs.Waking.{Sound, SoundAfter, AreFree, ended_sound}
-
--- no call of a task waits whose call ended
-abbrev pub AllFree : List TaskEnd → List WaitingCall → Type 0
-AllFree [] waits = Unit {0}
-AllFree (e ∷ es) waits = (times_waiting e.task.0 waits ≡ 0) × AllFree es waits
-
-pub all_fewer : (es : List TaskEnd) (before after : List WaitingCall) → Fewer before after → AllFree es before → AllFree es after
-all_fewer [] before after fewer h = tt
-all_fewer (e ∷ es) before after fewer h = (omega (arith, h.0, fewer e.task.0), all_fewer es before after fewer h.1)
-
-all_append : (xs ys : List TaskEnd) (waits : List WaitingCall) → AllFree xs waits → AllFree ys waits → AllFree (xs ++ ys) waits
-all_append [] ys waits h g = g
-all_append (x ∷ xs) ys waits h g = (h.0, all_append xs ys waits h.1 g)
-
-net_free : (es : List NetEnd) (waits : List WaitingCall) → AreFree es waits → AllFree (map net_end es) waits
-net_free [] waits h = tt
-net_free (e ∷ es) waits h = (h.0, net_free es waits h.1)
+use Rattle.laws_node.proofs.Waking.{Sound, WokenSound, AreFree, all_fewer, all_append, ended_sound}
 
 -- so it is after events of both parts, where these calls waited
 pub record Taken (before : List WaitingCall) (q : Progress) (calls : ℕ) : Type 0 where
-  pub sound : Sound q.kernel q.net calls
-  pub free : AllFree q.ends q.kernel.waits
+  pub sound : Sound q.kernel q.net.pend calls
+  pub free : AreFree q.ends q.kernel.waits
   pub fewer : Fewer before q.kernel.waits
 
 -- ---- ends
 
 -- what the network part did
-pub net_taken : (p : Progress) (k : PlainKernel) (net_ends : List NetEnd) (q : Progress) (calls : ℕ)
-    → q.ends ≡ p.ends ++ map net_end net_ends
-    → AllFree p.ends k.waits
-    → SoundAfter k q.kernel q.net calls net_ends
-    → Taken k.waits q calls
-net_taken p k net_ends q calls same free after = record {
-  sound = after.sound;
-  free = subst (λ es. AllFree es q.kernel.waits) (sym same) (all_append p.ends (map net_end net_ends) q.kernel.waits (all_fewer p.ends k.waits q.kernel.waits after.fewer free) (net_free net_ends q.kernel.waits after.free));
-  fewer = after.fewer;
-}
+pub net_taken : (p : Progress) (o : UdpOutcome) (calls : ℕ) → AreFree p.ends p.kernel.waits → WokenSound p.kernel o calls → Taken p.kernel.waits (after_net p o) calls
+net_taken p o calls free after =
+    let woken : PlainKernel = woken_by p.kernel o.endings.ends in
+    record {
+      sound = after.sound;
+      free = all_append p.ends o.endings.ends woken.waits (all_fewer p.ends p.kernel.waits woken.waits after.fewer free) after.free;
+      fewer = after.fewer;
+    }
 
 inside_taken : (p : Progress) (es : List KEnd) (before : List WaitingCall) (calls : ℕ) → AreInside es → KernelFree es p.kernel.waits → Taken before p calls → Taken before (after_ends p es) calls
 inside_taken p [] before calls inside ends h = h
@@ -70,25 +49,29 @@ inside_taken p (e ∷ es) before calls inside ends h =
 -- ---- an event of the kernel
 
 pub kernel_taken : (p : Progress) (o : Outcome) (calls more : ℕ)
-    → Sound p.kernel p.net calls
+    → Sound p.kernel p.net.pend calls
     → calls ≤ more
     → o.kernel.last_call ≤ more
-    → AllFree p.ends o.kernel.waits
+    → AreFree p.ends o.kernel.waits
     → Moves p.kernel.waits o
     → Taken o.kernel.waits (after_kernel p o) more
 unfolding after_kernel
 kernel_taken p o calls more h le last free m = of m.did
   where
-    of : Did p.kernel.waits o → Taken o.kernel.waits (after_ends (record p { kernel = o.kernel }) o.ends) more
+    start : Progress
+    start = record p { kernel = o.kernel }
+
+    of : Did p.kernel.waits o → Taken o.kernel.waits (after_ends start o.ends) more
     of (none inside same) =
-        inside_taken (record p { kernel = o.kernel }) o.ends o.kernel.waits more inside m.free
+        inside_taken start o.ends o.kernel.waits more inside m.free
         (record {
           sound = record {
             stands = m.stands;
             last = last;
             same = λ n i. sym (same n i) ∙ h.same n i;
             rises = h.rises;
-            below = below_more call_number (calls + 1) (more + 1) p.net.calls (omega (arith, le)) h.below;
+            below = h.below;
+            drawn = omega (arith, h.drawn, le);
           };
           free = free;
           fewer = λ id. omega arith;
@@ -97,11 +80,10 @@ kernel_taken p o calls more h le last free m = of m.did
         let ends : KernelFree (ending w code bytes ∷ es) o.kernel.waits = subst (λ l. KernelFree l o.kernel.waits) told m.free in
         let key : (n i : ℕ) → is_outside_call n i w ≡ ((w.call.0 == n) && (w.task.0 == i)) = λ n i. rw outside refl in
         let first =
-        ended_sound o.kernel p.net w.call w.task.0 code more m.stands last (λ n i. omega (arith, h.same n i, fewer n i, ap one_if (key n i))) ends.0 h.rises (below_more call_number (calls + 1) (more + 1) p.net.calls (omega (arith, le)) h.below) in
-        let taken : Taken o.kernel.waits (after_end (record p { kernel = o.kernel }) (ending w code bytes)) more =
-        rw outside (net_taken (record p { kernel = o.kernel }) o.kernel (ended p.net w.call code).ends (after_net (record p { kernel = o.kernel }) (ended p.net w.call code)) more refl free first) in
-        subst (λ l. Taken o.kernel.waits (after_ends (record p { kernel = o.kernel }) l) more) (sym told)
-        (inside_taken (after_end (record p { kernel = o.kernel }) (ending w code bytes)) es o.kernel.waits more inside (kernel_fewer es o.kernel.waits _ taken.fewer ends.1) taken)
+        ended_sound o.kernel p.net w.call w.task.0 code more m.stands last (λ n i. omega (arith, h.same n i, fewer n i, ap one_if (key n i))) ends.0 h.rises h.below (omega (arith, h.drawn, le)) in
+        let taken : Taken o.kernel.waits (after_end start (ending w code bytes)) more = rw outside (net_taken start (ended p.net w.call code) more free first) in
+        subst (λ l. Taken o.kernel.waits (after_ends start l) more) (sym told)
+        (inside_taken (after_end start (ending w code bytes)) es o.kernel.waits more inside (kernel_fewer es o.kernel.waits _ taken.fewer ends.1) taken)
 
 -- ---- ends by time
 

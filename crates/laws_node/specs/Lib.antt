@@ -1,3 +1,6 @@
-pub mod AtRest
+pub mod Taken
 pub mod Agreement
+pub mod Running
 pub mod EndPoints
+pub mod AtRest
+pub mod Due

@@ -1,13 +1,15 @@
 ghost use Rattle.std.specs.Prelude.{ℕ, List};
+ghost use Rattle.it_types.specs.declared.id.ObjId.{ObjId};
 ghost use Rattle.it_types.specs.declared.conf.KConf.{KConf};
-ghost use Rattle.spec_node.specs.declared.event.NodeEvent.{NodeEvent};
-ghost use Rattle.spec_node.specs.PlainNode.{PlainNode, opened_node};
-ghost use Rattle.laws_node.specs.EndPoints.{PointsAreKept, KeptAlong};
+ghost use Rattle.spec_node.specs.declared.event.NodeEv.{NodeEv};
+ghost use Rattle.spec_node.specs.PlainNode.{opened_node};
+ghost use Rattle.laws_node.specs.Taken.{Along};
+ghost use Rattle.laws_node.specs.EndPoints.{HasKeptPoints};
 
-/// Over every list of events of a node no two UDP end points have the same port, no queue has more than 8 datagrams, and a
-/// receive waits only at an end point that is there, at most one at each.
-#[tactic(auto, using(crate::proofs::Kept::kept_from_opening, crate::proofs::Kept::kept_along))]
+/// Over every list of events of a node with handlers no two UDP end points have the same port, no queue has more than 8
+/// datagrams, only receives wait, at end points that are there, at most one at each, and a routine that is told of one is that of
+/// its end point, which is declared.
+#[tactic(auto, using(crate::proofs::Rest::kept_from_opening))]
 pub fn end_points_are_kept()
-    ensures opening { (conf : KConf) (addr : ℕ) → PointsAreKept (opened_node conf addr).net }
-    ensures along { (n : PlainNode) (events : List NodeEvent) → PointsAreKept n.net → KeptAlong n events }
+    ensures { (conf : KConf) (addr : ℕ) (routines : List ObjId) (events : List NodeEv) → Along HasKeptPoints (opened_node conf addr routines) events }
 {}

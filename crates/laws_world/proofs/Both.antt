@@ -3,7 +3,7 @@ use Rattle.std.proofs.Common.{◌≡◌, Bool, true, false, List, [], ◌∷◌,
 use Rattle.it_types.specs.declared.event.Event.{Event}
 use Rattle.it_types.specs.declared.node_conf.Conf.{Conf}
 use Rattle.it_types.specs.Configuration.{kernel_conf, first_conf, second_conf}
-use Rattle.spec_node.specs.declared.event.NodeEvent.{NodeEvent}
+use Rattle.spec_node.specs.declared.event.NodeEv.{NodeEv}
 use Rattle.spec_node.specs.PlainNode.{PlainNode}
 use Rattle.spec_node.specs.NodeStep.{node_step}
 use Rattle.spec_node.specs.Admitted as node
@@ -18,7 +18,7 @@ use Rattle.laws_world.proofs.Moves.{Moved, NodesMove, step_moves}
 
 -- each admitted event of a node keeps it
 abbrev pub IsKept : (PlainNode → Type 0) → Type 0
-IsKept P = (n : PlainNode) (event : NodeEvent) → node.is_admitted n event ≡ true → P n → P (node_step n event).0
+IsKept P = (n : PlainNode) (event : NodeEv) → node.is_admitted n event ≡ true → P n → P (node_step n event).0
 
 moved_keeps : (P : PlainNode → Type 0) (n m : PlainNode) → IsKept P → P n → Moved true n m → P m
 moved_keeps P n m kept h (Moved.stays same) = rw same h

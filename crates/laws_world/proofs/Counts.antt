@@ -12,8 +12,8 @@ use Rattle.it_types.specs.declared.entry.Entry.{Entry}
 use Rattle.it_types.specs.declared.conf.KConf.{KConf}
 use Rattle.it_types.specs.declared.node_conf.Conf.{Conf}
 use Rattle.it_types.specs.Configuration.{kernel_conf, first_conf, second_conf}
-use Rattle.spec_node.specs.declared.event.NodeEvent.{NodeEvent}
-use Rattle.spec_node.specs.declared.event.NodeEvent.TheVariants.{Call, Return, Tick, Arrive}
+use Rattle.spec_node.specs.declared.event.NodeEv.{NodeEv}
+use Rattle.spec_node.specs.declared.event.NodeEv.TheVariants.{Call, Return, Tick, Arrive}
 use Rattle.spec_node.specs.PlainNode.{PlainNode, opened_node}
 use Rattle.spec_node.specs.NodeStep.{node_step}
 use Rattle.spec_world.specs.PlainWorld.{Packet, PlainWorld, packet_from, peer_of, step_at, delivery, step, opened_world}
@@ -38,13 +38,13 @@ node_within m n h = record { calls = omega (arith, h.calls); now = omega (arith,
 within_more : (m : ℕ) (w : PlainWorld) → AreWithin m w → AreWithin (m + 1) w
 within_more m w h = record { first = node_within m w.nodes.first h.first; second = node_within m w.nodes.second h.second; packets = omega (arith, h.packets) }
 
-node_step_within : (m : ℕ) (n : PlainNode) (event : NodeEvent) → IsWithin m n → IsWithin (m + 1) (node_step n event).0
+node_step_within : (m : ℕ) (n : PlainNode) (event : NodeEv) → IsWithin m n → IsWithin (m + 1) (node_step n event).0
 node_step_within m n event h = let on = node_steps_on n event in record { calls = omega (arith, on.calls, h.calls); now = omega (arith, on.now, h.now); ranks = omega (arith, on.ranks, h.ranks) }
 
 packets_more : (m : ℕ) (packets : List Packet) (id : NodeId) (sent : List (List ℕ)) → length packets ≤ m → length sent ≤ 1 → length (packets ++ map (packet_from id) sent) ≤ m + 1
 packets_more m packets id sent le few = omega (arith, length-append packets (map (packet_from id) sent), length-map sent (packet_from id))
 
-step_at_within : (m : ℕ) (w : PlainWorld) (id : NodeId) (node_event : NodeEvent) (event : Event) → AreWithin m w → AreWithin (m + 1) (step_at w id node_event event).0
+step_at_within : (m : ℕ) (w : PlainWorld) (id : NodeId) (node_event : NodeEv) (event : Event) → AreWithin m w → AreWithin (m + 1) (step_at w id node_event event).0
 step_at_within m w id node_event event h = elim (cases_Bool (id.0 == 0)) [
   | inl t ↦ rw t (record {
     first = node_step_within m w.nodes.first node_event h.first;

@@ -27,8 +27,8 @@ use Rattle.spec_net.specs.NetSettle.{net_settled}
 use Rattle.spec_net.specs.UdpRows.{row, net_call}
 use Rattle.spec_net.specs.Arrival.{arrive}
 use Rattle.spec_net.specs.NetEnds.{numbered, ended_at, ended}
-use Rattle.spec_node.specs.declared.event.NodeEvent.{NodeEvent}
-use Rattle.spec_node.specs.declared.event.NodeEvent.TheVariants.{Call, Return, Tick, Arrive}
+use Rattle.spec_node.specs.declared.event.NodeEv.{NodeEv}
+use Rattle.spec_node.specs.declared.event.NodeEv.TheVariants.{Call, Return, Tick, Arrive}
 use Rattle.spec_node.specs.PlainNode.{PlainNode}
 use Rattle.spec_node.specs.Progress.{Progress, woken_by, after_end, after_ends, after_kernel, time_out, timed_out}
 use Rattle.spec_node.specs.NodeStep.{beginning, blocked_where, kernel_answer, net_answer, drawn, kernel_called, network_called, called_as, arrived, ticked, returned, node_step}
@@ -210,7 +210,7 @@ called_on : (n : PlainNode) (ctx : Ctx) (request : Req) (call : Option KReq) →
 called_on n ctx request (Some call) = kernel_called_on n ctx call
 called_on n ctx request None = network_called_on n ctx request
 
-pub node_steps_on : (n : PlainNode) (event : NodeEvent) → StepsOn n (node_step n event)
+pub node_steps_on : (n : PlainNode) (event : NodeEv) → StepsOn n (node_step n event)
 unfolding node_step
 node_steps_on n (Call ctx request) = called_on n ctx request (kernel_of request)
 node_steps_on n (Return task) = returned_on n task

@@ -5,8 +5,8 @@ use Rattle.it_types.specs.declared.id.NodeId.{NodeId}
 use Rattle.it_types.specs.declared.id.PackNo.{PackNo}
 use Rattle.it_types.specs.declared.event.Event.{Event}
 use Rattle.it_types.specs.declared.event.Event.TheVariants as events
-use Rattle.spec_node.specs.declared.event.NodeEvent.{NodeEvent}
-use Rattle.spec_node.specs.declared.event.NodeEvent.TheVariants.{Call, Return, Tick, Arrive}
+use Rattle.spec_node.specs.declared.event.NodeEv.{NodeEv}
+use Rattle.spec_node.specs.declared.event.NodeEv.TheVariants.{Call, Return, Tick, Arrive}
 use Rattle.spec_node.specs.PlainNode.{PlainNode}
 use Rattle.spec_node.specs.NodeStep.{node_step}
 use Rattle.spec_node.specs.Admitted as node
@@ -16,7 +16,7 @@ use Rattle.spec_world.specs.Admitted.{is_admitted_at, is_admitted}
 -- A node is as before, or after one event of its own, which it admits where the world admits the event that it is.
 pub data Moved (admitted : Bool) (n m : PlainNode) : Type 0 where
   stays : m ≡ n → Moved admitted n m
-  moves : (event : NodeEvent) → (admitted ≡ true → node.is_admitted n event ≡ true) → m ≡ (node_step n event).0 → Moved admitted n m
+  moves : (event : NodeEv) → (admitted ≡ true → node.is_admitted n event ≡ true) → m ≡ (node_step n event).0 → Moved admitted n m
 
 -- so are both
 pub record NodesMove (admitted : Bool) (before after : Nodes) : Type 0 where
@@ -24,7 +24,7 @@ pub record NodesMove (admitted : Bool) (before after : Nodes) : Type 0 where
   pub second : Moved admitted before.second after.second
 
 -- an event at one node leaves the other as it was
-at_moves : (admitted : Bool) (nodes : Nodes) (id : NodeId) (event : NodeEvent)
+at_moves : (admitted : Bool) (nodes : Nodes) (id : NodeId) (event : NodeEv)
     → (admitted ≡ true → node.is_admitted (node_at nodes id) event ≡ true)
     → NodesMove admitted nodes (nodes_step nodes id event).0
 at_moves admitted nodes id event can = record { first = first (id.0 == 0) can; second = second (id.0 == 0) can }
@@ -41,7 +41,7 @@ at_moves admitted nodes id event can = record { first = first (id.0 == 0) can; s
     second true can = stays refl
     second false can = moves event can refl
 
-pub admitted_part : (nodes : Nodes) (id : NodeId) (event : NodeEvent) → is_admitted_at nodes id event ≡ true → node.is_admitted (node_at nodes id) event ≡ true
+pub admitted_part : (nodes : Nodes) (id : NodeId) (event : NodeEv) → is_admitted_at nodes id event ≡ true → node.is_admitted (node_at nodes id) event ≡ true
 admitted_part nodes id event e = last (nat_le id.0 1) (node.is_admitted (node_at nodes id) event) e
   where
     last : (a b : Bool) → (a && b) ≡ true → b ≡ true
@@ -64,6 +64,6 @@ step_moves w (events.Finish id) = record { first = stays refl; second = stays re
 step_moves w events.Stop = record { first = stays refl; second = stays refl }
 
 -- what each event of a node keeps, a move keeps
-pub move_keeps : (P : PlainNode → Type 0) (admitted : Bool) (n m : PlainNode) → ((event : NodeEvent) → P (node_step n event).0) → P n → Moved admitted n m → P m
+pub move_keeps : (P : PlainNode → Type 0) (admitted : Bool) (n m : PlainNode) → ((event : NodeEv) → P (node_step n event).0) → P n → Moved admitted n m → P m
 move_keeps P admitted n m keeps h (stays same) = rw same h
 move_keeps P admitted n m keeps h (moves event can after) = rw after (keeps event)

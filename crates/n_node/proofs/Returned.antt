@@ -5,7 +5,7 @@ use Rattle.it_types.specs.declared.id.TaskId.{TaskId}
 use Rattle.it_types.specs.declared.answer.Ans.{Ans}
 use Rattle.spec_lists.specs.Tables.{get}
 use Rattle.spec_node.specs.declared.held.Held.{Held}
-use Rattle.spec_node.specs.declared.event.NodeEvent.TheVariants.{Return}
+use Rattle.spec_node.specs.declared.event.NodeEv.TheVariants.{Return}
 use Rattle.spec_node.specs.PlainNode.{PlainNode}
 use Rattle.spec_node.specs.NodeStep.{held_answer, returned, node_step}
 

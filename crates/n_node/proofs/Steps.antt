@@ -24,8 +24,8 @@ use Rattle.spec_net.specs.NetEnds.{ended}
 use Rattle.spec_net.specs.UdpRows.{net_call}
 use Rattle.spec_net.specs.Kept.{NetKept}
 use Rattle.spec_net.proofs.Keeping.{net_drawn, more_numbers, arrive_keeps, ended_keeps, net_call_keeps}
-use Rattle.spec_node.specs.declared.event.NodeEvent.{NodeEvent}
-use Rattle.spec_node.specs.declared.event.NodeEvent.TheVariants.{Call, Return, Tick, Arrive}
+use Rattle.spec_node.specs.declared.event.NodeEv.{NodeEv}
+use Rattle.spec_node.specs.declared.event.NodeEv.TheVariants.{Call, Return, Tick, Arrive}
 use Rattle.spec_node.specs.PlainNode.{PlainNode}
 use Rattle.spec_node.specs.Progress.{Progress, woken_by, after_end, after_ends, after_kernel, time_out, timed_out}
 use Rattle.spec_node.specs.NodeStep.{beginning, kernel_answer, net_answer, drawn, blocked_where, kernel_called, network_called, called_as, arrived, ticked, returned, node_step}
@@ -116,7 +116,7 @@ called_kept n ctx request (Some call) h = kernel_kept n ctx call h
 called_kept n ctx request None h = network_kept n ctx request h
 
 -- each event keeps it
-pub step_kept : (n : PlainNode) (event : NodeEvent) → Kept n → Kept (node_step n event).0
+pub step_kept : (n : PlainNode) (event : NodeEv) → Kept n → Kept (node_step n event).0
 unfolding node_step ticked arrived returned
 step_kept n (Call ctx request) h = called_kept n ctx request (kernel_of request) h
 step_kept n (Return task) h = record { last_call = h.last_call; net = h.net }
@@ -129,5 +129,5 @@ step_kept n (Arrive bytes) h = record {
   net = more_kept n.calls 0 (arrive n.net bytes).net (arrive_keeps n.calls n.net bytes h.net);
 }
 
-pub stepped_kept : (n after : PlainNode) (event : NodeEvent) (out : Out) → Kept n → node_step n event ≡ (after, out) → Kept after
+pub stepped_kept : (n after : PlainNode) (event : NodeEv) (out : Out) → Kept n → node_step n event ≡ (after, out) → Kept after
 stepped_kept n after event out h e = subst (λ (x : PlainNode × Out). Kept x.0) e (step_kept n event h)

@@ -18,7 +18,7 @@ use Rattle.spec_net.specs.PlainNet.{PlainNet, NetOutcome}
 use Rattle.spec_net.specs.Arrival.{arrive}
 use Rattle.e_udp.specs.Does as network
 use Rattle.e_udp.specs.declared.out.Out as network_out
-use Rattle.spec_node.specs.declared.event.NodeEvent.TheVariants.{Tick, Arrive}
+use Rattle.spec_node.specs.declared.event.NodeEv.TheVariants.{Tick, Arrive}
 use Rattle.spec_node.specs.PlainNode.{PlainNode, running_in}
 use Rattle.spec_node.specs.Progress.{Progress, after_net, after_ends, after_kernel, timed_out}
 use Rattle.spec_node.specs.NodeStep.{beginning, call_end, drawn, kernel_answer, net_answer, forgetting, gone_marks, begun_marks, run_marks, node_after, out_of, done, kernel_called, arrived, ticked, node_step}

@@ -2,7 +2,7 @@ ghost use Rattle.std.specs.Prelude.{◌≡◌, IfOk};
 ghost use Rattle.spec_net.specs.Arrival.{arrive};
 ghost use Rattle.spec_net.specs.NetSettle.{NetAtRest};
 ghost use Rattle.e_udp.specs.Does.{Does};
-ghost use Rattle.spec_node.specs.declared.event.NodeEvent.TheVariants.{Arrive as Arrived};
+ghost use Rattle.spec_node.specs.declared.event.NodeEv.TheVariants.{Arrive as Arrived};
 ghost use Rattle.spec_node.specs.NodeStep.{node_step};
 ghost use Rattle.n_node.specs.Plain.{plain};
 

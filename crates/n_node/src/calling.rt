@@ -1,6 +1,6 @@
 ghost use Rattle.std.specs.Prelude.{◌≡◌, ◌≢◌, ◌<◌, ◌≤◌, ◌+◌, ◌-◌, ◌^◌, IfOk};
 ghost use Rattle.it_types.specs.declared.context.Ctx.TheVariants.{Task as InTask};
-ghost use Rattle.spec_node.specs.declared.event.NodeEvent.TheVariants.{Call as Called};
+ghost use Rattle.spec_node.specs.declared.event.NodeEv.TheVariants.{Call as Called};
 ghost use Rattle.spec_node.specs.PlainNode.{running_in};
 ghost use Rattle.spec_node.specs.NodeStep.{node_step, kernel_called, kernel_answer, drawn};
 ghost use Rattle.n_node.specs.Plain.{plain};

@@ -4,7 +4,7 @@ ghost use Rattle.it_types.specs.Configuration.{kernel_conf};
 ghost use Rattle.it_types.specs.declared.request.Req.{Req as ARequest};
 ghost use Rattle.spec_kernel.specs.TaskBlocks.{is_active};
 ghost use Rattle.spec_kernel.specs.Opening.{IsDeclarable};
-ghost use Rattle.spec_node.specs.declared.event.NodeEvent.TheVariants.{Call as Called, Return as Returned, Tick as Ticked, Arrive as Arrived};
+ghost use Rattle.spec_node.specs.declared.event.NodeEv.TheVariants.{Call as Called, Return as Returned, Tick as Ticked, Arrive as Arrived};
 ghost use Rattle.spec_node.specs.PlainNode.{opened_node, running_task, holds_answer};
 ghost use Rattle.spec_node.specs.Admitted.{is_admitted};
 ghost use Rattle.spec_node.specs.NodeStep.{node_step};

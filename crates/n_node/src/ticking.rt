@@ -1,5 +1,5 @@
 ghost use Rattle.std.specs.Prelude.{◌≡◌, ◌<◌, ◌^◌, IfOk, OnOk};
-ghost use Rattle.spec_node.specs.declared.event.NodeEvent.TheVariants.{Tick as Ticked};
+ghost use Rattle.spec_node.specs.declared.event.NodeEv.TheVariants.{Tick as Ticked};
 ghost use Rattle.spec_node.specs.Progress.{timed_out};
 ghost use Rattle.spec_node.specs.NodeStep.{node_step};
 ghost use Rattle.n_node.specs.Plain.{plain};

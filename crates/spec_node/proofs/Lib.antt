@@ -1,4 +1,7 @@
-pub mod Progressing
 pub mod Examples
-pub mod Exchange
-pub mod Deadlines
+pub mod Callbacks
+pub mod Refusals
+pub mod Datagrams
+pub mod Cyclics
+pub mod DueOrder
+pub mod OtherEnds

@@ -1,19 +1,21 @@
--- Which events are admitted at a node: a call of the running task, which holds no answer; the return of the running task,
--- which holds one; a tick and an arrival always. No handler begins yet. It is this project's own.
-use Rattle.std.specs.Prelude.{Bool, true, false, not, ◌&&◌, ◌==◌}
+-- Which events are admitted at a node. Handlers come before tasks: while one is due or has begun no task calls or returns. A tick
+-- and an arrival are admitted always. It is this project's own.
+use Rattle.std.specs.Prelude.{Bool, true, not, ◌&&◌, ◌||◌, ◌==◌}
 use Rattle.it_types.specs.declared.id.TaskId.{TaskId}
 use Rattle.it_types.specs.declared.context.Ctx.TheVariants as contexts
-use Rattle.spec_node.specs.declared.event.NodeEvent.{NodeEvent}
-use Rattle.spec_node.specs.declared.event.NodeEvent.TheVariants.{Call, Return, Tick, Arrive}
-use Rattle.spec_node.specs.PlainNode.{PlainNode, running_task, holds_answer}
+use Rattle.spec_node.specs.declared.event.NodeEv.{NodeEv}
+use Rattle.spec_node.specs.declared.event.NodeEv.TheVariants.{Call, Return, Begin, Finish, Tick, Arrive}
+use Rattle.spec_node.specs.PlainNode.{PlainNode, running_task, holds_answer, has_due, has_begun}
 
--- the task runs on the node
-abbrev pub is_running : PlainNode → TaskId → Bool
-is_running n task = not (task.0 == 0) && (running_task n).0 == task.0
+-- the task runs on the node, and no handler is due or has begun
+abbrev pub is_free : PlainNode → TaskId → Bool
+is_free n task = not (has_due n || has_begun n) && (not (task.0 == 0) && (running_task n).0 == task.0)
 
-abbrev pub is_admitted : PlainNode → NodeEvent → Bool
-is_admitted n (Call (contexts.Task task) request) = is_running n task && not (holds_answer n task)
-is_admitted n (Call contexts.Handler request) = false
-is_admitted n (Return task) = is_running n task && holds_answer n task
+abbrev pub is_admitted : PlainNode → NodeEv → Bool
+is_admitted n (Call (contexts.Task task) request) = is_free n task && not (holds_answer n task)
+is_admitted n (Call contexts.Handler request) = has_begun n
+is_admitted n (Return task) = is_free n task && holds_answer n task
+is_admitted n Begin = has_due n && not (has_begun n)
+is_admitted n Finish = has_begun n
 is_admitted n Tick = true
 is_admitted n (Arrive bytes) = true

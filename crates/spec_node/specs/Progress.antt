@@ -1,48 +1,47 @@
--- An event under way: both parts of the node so far, the ends of calls, and the packets. The two parts meet here: a call of
--- the network part that ends wakes its task in the kernel, and a wait that the kernel ends for it ends in the network part
--- too. It is this project's own.
-use Rattle.std.specs.Prelude.{ℕ, zero, suc, true, false, List, [], ◌∷◌, ◌++◌, length, map, Option, Some, None}
-use Rattle.it_types.specs.declared.id.TaskId.{TaskId}
-use Rattle.it_types.specs.declared.id.CallNo.{CallNo}
-use Rattle.it_types.specs.declared.er.Er.{Er}
+-- An event under way: both parts of the node so far, the ends of calls, the marks of callback routines that are told, and the
+-- packets. The two parts meet here: a call of the network part that ends wakes its task in the kernel, and a wait that the kernel
+-- ends for it ends in the network part too. It is this project's own.
+use Rattle.std.specs.Prelude.{ℕ, zero, suc, true, false, List, [], ◌∷◌, ◌++◌, length, Option, Some, None}
+use Rattle.it_types.specs.declared.mark.Mark.{Mark}
 use Rattle.spec_kernel.specs.declared.outcome.KEnd.{KEnd}
 use Rattle.spec_kernel.specs.PlainKernel.{PlainKernel}
 use Rattle.spec_kernel.specs.Settle.{Outcome}
 use Rattle.spec_kernel.specs.Time.{due, unblocked}
-use Rattle.spec_net.specs.declared.outcome.NetEnd.{NetEnd}
-use Rattle.spec_net.specs.PlainNet.{PlainNet, NetOutcome}
-use Rattle.spec_net.specs.NetEnds.{ended}
-
--- the end of a task's call, of either part
-pub record TaskEnd : Type 0 where
-  pub call : CallNo
-  pub task : TaskId
-  pub code : Er
-  pub bytes : List ℕ
+use Rattle.spec_pend.specs.declared.call.Who.{Who}
+use Rattle.spec_pend.specs.declared.call.Who.TheVariants as whos
+use Rattle.spec_pend.specs.declared.answer.NetEnd.{NetEnd}
+use Rattle.spec_udp.specs.PlainUdps.{UdpSide, UdpOutcome, side_after}
+use Rattle.spec_udp.specs.Outside.{ended}
 
 pub record Progress : Type 0 where
   pub kernel : PlainKernel
-  pub net : PlainNet
-  pub ends : List TaskEnd
+  pub net : UdpSide
+  pub ends : List NetEnd  -- of either part
+  pub marks : List Mark
   pub packets : List (List ℕ)
 
-abbrev pub kernel_end : KEnd → TaskEnd
-kernel_end e = record { call = e.call; task = e.task; code = e.code; bytes = e.bytes }
+-- a task is told of the end of a kernel call
+abbrev pub kernel_end : KEnd → NetEnd
+kernel_end e = record { call = e.call; who = whos.Task e.task; code = e.code; bytes = e.bytes }
 
-abbrev pub net_end : NetEnd → TaskEnd
-net_end e = record { call = e.call; task = e.who; code = e.code; bytes = e.bytes }
+-- the kernel after a call of the network part has ended: a task that waited for it waits no longer; where a routine is told of it
+-- none waited
+abbrev pub woken_for : PlainKernel → Who → PlainKernel
+woken_for k (whos.Task t) = (unblocked k t).0
+woken_for k (whos.Callback t cbr) = k
 
--- the kernel after calls of the network part have ended: their tasks wait no longer
+-- the same for all that have ended
 abbrev pub woken_by : PlainKernel → List NetEnd → PlainKernel
 woken_by k [] = k
-woken_by k (e ∷ es) = woken_by (unblocked k e.who).0 es
+woken_by k (e ∷ es) = woken_by (woken_for k e.who) es
 
 -- what the network part did is taken over
-abbrev pub after_net : Progress → NetOutcome → Progress
+abbrev pub after_net : Progress → UdpOutcome → Progress
 after_net p o = record {
-  kernel = woken_by p.kernel o.ends;
-  net = o.net;
-  ends = p.ends ++ map net_end o.ends;
+  kernel = woken_by p.kernel o.endings.ends;
+  net = side_after o;
+  ends = p.ends ++ o.endings.ends;
+  marks = p.marks ++ o.endings.marks;
   packets = p.packets ++ o.packets;
 }
 

@@ -11,9 +11,9 @@ use Rattle.spec_lists.specs.Tables.{get, change}
 use Rattle.spec_lists.specs.First.{take_first}
 use Rattle.spec_lists.proofs.Changes.{change_undone, get-change_other, get-change_same}
 use Rattle.spec_lists.proofs.Firsts.{found, none_parts, or_first, same_first, some_parts}
-use Rattle.spec_net.specs.declared.point.Received.{Received}
-use Rattle.spec_net.specs.NetSettle.{has_some}
-use Rattle.spec_net.specs.Receiving.{receive_bytes, receive_code}
+use Rattle.spec_udp.specs.declared.point.Received.{Received}
+use Rattle.spec_udp.specs.Points.{has_some, has_port, joined, queue_of, rest_of, without_oldest}
+use Rattle.spec_udp.specs.Receiving.{receive_bytes, receive_code}
 use Rattle.spec_pend.specs.declared.slot.Slot.{Slot}
 use Rattle.spec_pend.specs.declared.slot.Part.{Part}
 use Rattle.spec_pend.specs.declared.slot.Part.TheVariants.{Conn, Send, Recv}
@@ -23,7 +23,6 @@ use Rattle.spec_pend.specs.Slots.{at_slot, has_slot, part_number}
 use Rattle.spec_pend.specs.Ends.{ended_as}
 use Rattle.spec_udp.specs.declared.point.UdpPoint.{UdpPoint}
 use Rattle.spec_udp.specs.PlainUdps.{UdpSide, UdpOutcome, queue_limit, quiet, side_after}
-use Rattle.spec_udp.specs.Points.{has_port, joined, queue_of, rest_of, without_oldest}
 use Rattle.spec_udp.specs.Settling.{is_met, is_ready, met, met_bytes, met_code, met_packets, point_after, settled, UdpAtRest}
 use Rattle.spec_udp.specs.Rows.{slot_of, with_point}
 use Rattle.spec_udp.specs.Arrival.{at_point, has_place, is_event, queued, with_event, with_port}

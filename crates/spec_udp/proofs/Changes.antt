@@ -7,11 +7,10 @@ use Rattle.std.specs.Prelude.{slice_set}
 use Rattle.it_types.specs.declared.id.ObjId.{ObjId}
 use Rattle.spec_lists.specs.Tables.{get, change}
 use Rattle.spec_lists.proofs.Changes.{get-change_other}
-use Rattle.spec_net.specs.declared.point.Received.{Received}
-use Rattle.spec_net.specs.NetSettle.{has_some}
+use Rattle.spec_udp.specs.declared.point.Received.{Received}
+use Rattle.spec_udp.specs.Points.{has_some, queue_of, rest_of, new_point, with_wanted, with_sending, without_oldest}
 use Rattle.spec_udp.specs.declared.point.Sending.{Sending}
 use Rattle.spec_udp.specs.declared.point.UdpPoint.{UdpPoint}
-use Rattle.spec_udp.specs.Points.{queue_of, rest_of, new_point, with_wanted, with_sending, without_oldest}
 use Rattle.spec_udp.proofs.Settling.{NoMore}
 
 -- where the end point that is changed has nothing that it hadn't

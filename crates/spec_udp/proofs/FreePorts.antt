@@ -1,10 +1,9 @@
 -- The port that an end point gets which asks for any is the least dynamic port that no end point has.
 use Rattle.std.proofs.Common.{◌≡◌, ℕ, zero, suc, ◌+◌, ◌<◌, ◌≤◌, Bool, true, false, cond, leb, List, [], ◌∷◌, length, Option, Some, None, refl, sym, ap, ◌∙◌, inl, inr, arith}
 use Rattle.std.proofs.lemmas.Bool.{cases_Bool, cases_eq, cases_lt, eq-eqb, ne_eqb, le-leb, lt-leb}
-use Rattle.spec_net.specs.Ports.{first_dynamic_port}
+use Rattle.spec_udp.specs.Ports.{first_dynamic_port, is_taken, first_free, free_port}
 use Rattle.spec_udp.specs.declared.point.UdpPoint.{UdpPoint}
 use Rattle.spec_udp.specs.Points.{has_port}
-use Rattle.spec_udp.specs.Ports.{is_taken, first_free, free_port}
 
 -- the end point has a port from this one on
 has_port_from : ℕ → Option UdpPoint → Bool

@@ -11,18 +11,16 @@ use Rattle.it_types.specs.declared.context.Ctx.{Ctx}
 use Rattle.it_types.specs.declared.handler.FnCode.{FnCode}
 use Rattle.it_types.specs.declared.handler.FnCode.TheVariants as functions
 use Rattle.it_types.specs.declared.request.Req.{Req}
-use Rattle.spec_lists.specs.First.{take_first}
+use Rattle.spec_lists.specs.First.{take_first, is_least}
 use Rattle.spec_lists.specs.Refusal.{first_refusal}
 use Rattle.spec_lists.specs.Tables.{get}
 use Rattle.spec_lists.proofs.Firsts.{found, none_append, none_from_parts}
-use Rattle.spec_net.specs.NetSettle.{has_some}
+use Rattle.spec_udp.specs.Points.{has_some, queue_of, routine_at, with_wanted, without_oldest}
 use Rattle.spec_pend.specs.declared.call.NetCall.{NetCall}
 use Rattle.spec_pend.specs.PlainPend.{PlainPend, no_endings}
 use Rattle.spec_pend.specs.Slots.{has_number, is_named, named, numbered, part_of}
-use Rattle.spec_lists.specs.First.{is_least}
 use Rattle.spec_pend.specs.Ends.{ended_where}
 use Rattle.spec_udp.specs.PlainUdps.{PlainUdps, UdpSide, side_after}
-use Rattle.spec_udp.specs.Points.{queue_of, routine_at, with_wanted, without_oldest}
 use Rattle.spec_udp.specs.Ports.{port_for}
 use Rattle.spec_udp.specs.Settling.{is_ready, UdpAtRest, settled}
 use Rattle.spec_udp.specs.Rows.{refusals, udp_call, carried_out, answered, with_point, made, deleted, waiting, cancelled, slot_of, who_is_told}

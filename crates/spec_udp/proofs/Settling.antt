@@ -9,14 +9,13 @@ use Rattle.it_types.specs.declared.request.Req.{Req}
 use Rattle.spec_lists.specs.Tables.{get}
 use Rattle.spec_lists.specs.First.{take_first}
 use Rattle.spec_lists.proofs.Firsts.{cases_of_first, none_weaker, take_first-shorter}
-use Rattle.spec_net.specs.NetSettle.{has_some}
-use Rattle.spec_net.specs.Packets.{arrived_in}
+use Rattle.spec_udp.specs.Points.{has_some, queue_of}
+use Rattle.spec_udp.specs.Packets.{arrived_in}
 use Rattle.spec_pend.specs.declared.call.NetCall.{NetCall}
 use Rattle.spec_pend.specs.declared.slot.Part.{Part}
 use Rattle.spec_pend.specs.declared.slot.Part.TheVariants.{Conn, Send, Recv}
 use Rattle.spec_udp.specs.declared.point.UdpPoint.{UdpPoint}
 use Rattle.spec_udp.specs.PlainUdps.{PlainUdps, UdpSide, UdpOutcome, side_after}
-use Rattle.spec_udp.specs.Points.{queue_of}
 use Rattle.spec_udp.specs.Settling.{is_met, is_ready, first_ready, UdpAtRest, met, settle, settled}
 use Rattle.spec_udp.specs.Rows.{row, udp_call}
 use Rattle.spec_udp.specs.Arrival.{after_arrival, arrive}

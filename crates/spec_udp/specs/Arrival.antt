@@ -4,9 +4,9 @@ use Rattle.std.specs.Prelude.{ℕ, ◌+◌, Bool, not, ◌&&◌, ◌==◌, List,
 use Rattle.it_types.specs.declared.id.CepId.{CepId}
 use Rattle.it_types.specs.declared.handler.FnCode.TheVariants as functions
 use Rattle.spec_lists.specs.Tables.{get}
-use Rattle.spec_net.specs.declared.point.Received.{Received}
-use Rattle.spec_net.specs.Packets.{Arrived, arrived_in}
-use Rattle.spec_net.specs.Receiving.{count_code}
+use Rattle.spec_udp.specs.declared.point.Received.{Received}
+use Rattle.spec_udp.specs.Packets.{Arrived, arrived_in}
+use Rattle.spec_udp.specs.Receiving.{count_code}
 use Rattle.spec_pend.specs.Slots.{is_taken}
 use Rattle.spec_pend.specs.Ends.{told}
 use Rattle.spec_udp.specs.declared.point.UdpPoint.{UdpPoint}

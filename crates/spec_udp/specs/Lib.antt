@@ -1,6 +1,8 @@
 pub mod PlainUdps
 pub mod Points
 pub mod Ports
+pub mod Packets
+pub mod Receiving
 pub mod Settling
 pub mod Rows
 pub mod Arrival

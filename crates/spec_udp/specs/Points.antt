@@ -1,9 +1,14 @@
 -- What stands at a UDP end point, if there is one, and how it changes (ITRON TCP/IP API, chapter on UDP).
-use Rattle.std.specs.Prelude.{ℕ, Bool, false, List, [], ◌∷◌, ◌++◌, Option, Some, None, ◌==◌}
+use Rattle.std.specs.Prelude.{ℕ, Bool, true, false, ◌||◌, List, [], ◌∷◌, ◌++◌, Option, Some, None, nat_lt, ◌==◌}
 use Rattle.it_types.specs.declared.id.ObjId.{ObjId}
-use Rattle.spec_net.specs.declared.point.Received.{Received}
+use Rattle.spec_udp.specs.declared.point.Received.{Received}
 use Rattle.spec_udp.specs.declared.point.Sending.{Sending}
 use Rattle.spec_udp.specs.declared.point.UdpPoint.{UdpPoint}
+use Rattle.spec_udp.specs.PlainUdps.{greatest_point}
+
+-- the id is none of a UDP end point
+abbrev pub is_wrong_id : ℕ → Bool
+is_wrong_id id = (id == 0) || nat_lt greatest_point id
 
 abbrev pub has_port : ℕ → Option UdpPoint → Bool
 has_port port None = false
@@ -21,6 +26,10 @@ routine_at (Some p) = p.routine
 abbrev pub queue_of : Option UdpPoint → List Received
 queue_of None = []
 queue_of (Some p) = p.queue
+
+abbrev pub has_some : List Received → Bool
+has_some [] = false
+has_some (d ∷ ds) = true
 
 -- how many bytes the receive wants that waits there
 abbrev pub wanted_at : Option UdpPoint → ℕ

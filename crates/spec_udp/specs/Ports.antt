@@ -2,13 +2,15 @@
 -- (RFC 6335, section 6); that the least free one is chosen is this project's own.
 use Rattle.std.specs.Prelude.{ℕ, zero, suc, ◌+◌, Bool, true, false, List, length, Option, ◌==◌, if◌then◌else◌}
 use Rattle.std.specs.List.{list_any}
-use Rattle.spec_net.specs.Ports.{first_dynamic_port}
 use Rattle.spec_udp.specs.declared.point.UdpPoint.{UdpPoint}
 use Rattle.spec_udp.specs.Points.{has_port}
 
 -- an end point has the port
 abbrev pub is_taken : List (Option UdpPoint) → ℕ → Bool
 is_taken points port = list_any (has_port port) points
+
+abbrev pub first_dynamic_port : ℕ
+first_dynamic_port = 49152
 
 -- the least of so many ports from one on that aren't taken, or the port behind them
 unfoldable pub first_free : ℕ → ℕ → (ℕ → Bool) → ℕ

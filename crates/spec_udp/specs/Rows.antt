@@ -18,10 +18,9 @@ use Rattle.it_types.specs.declared.request.Req.TheVariants.{UdpCreCep, UdpDelCep
 use Rattle.it_types.specs.Callers.{caller, is_handler, is_nblk, is_poll}
 use Rattle.spec_lists.specs.Tables.{get, change}
 use Rattle.spec_lists.specs.Refusal.{first_refusal}
-use Rattle.spec_net.specs.declared.point.Received.{Received}
-use Rattle.spec_net.specs.Packets.{sent_packet}
-use Rattle.spec_net.specs.Receiving.{count_code, receive_code, receive_bytes}
-use Rattle.spec_net.specs.UdpRows.{is_wrong_id, greatest_load, greatest_length}
+use Rattle.spec_udp.specs.declared.point.Received.{Received}
+use Rattle.spec_udp.specs.Packets.{sent_packet}
+use Rattle.spec_udp.specs.Receiving.{count_code, receive_code, receive_bytes}
 use Rattle.spec_pend.specs.declared.slot.Slot.{Slot}
 use Rattle.spec_pend.specs.declared.slot.Part.TheVariants.{Send, Recv}
 use Rattle.spec_pend.specs.declared.call.Who.{Who}
@@ -34,9 +33,17 @@ use Rattle.spec_pend.specs.Slots.{named, with_call}
 use Rattle.spec_pend.specs.Ends.{ended_where}
 use Rattle.spec_udp.specs.declared.point.UdpPoint.{UdpPoint}
 use Rattle.spec_udp.specs.PlainUdps.{UdpSide, UdpOutcome, quiet}
-use Rattle.spec_udp.specs.Points.{routine_at, queue_of, local_port, new_point, with_wanted, with_sending, without_oldest}
+use Rattle.spec_udp.specs.Points.{is_wrong_id, routine_at, queue_of, local_port, new_point, with_wanted, with_sending, without_oldest}
 use Rattle.spec_udp.specs.Ports.{is_taken, port_for}
 use Rattle.spec_udp.specs.Settling.{settled}
+
+-- the most data of a datagram that fits a packet of 1,500 bytes
+abbrev pub greatest_load : ℕ
+greatest_load = 1472
+
+-- the most bytes that a call may ask for
+abbrev pub greatest_length : ℕ
+greatest_length = 65280
 
 -- ---- the tests
 

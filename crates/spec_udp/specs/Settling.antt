@@ -5,10 +5,10 @@ use Rattle.it_types.specs.declared.er.Er.{Er}
 use Rattle.it_types.specs.declared.er.TheConstants.{E_OK}
 use Rattle.spec_lists.specs.Tables.{get, change}
 use Rattle.spec_lists.specs.First.{take_first}
-use Rattle.spec_net.specs.declared.point.Received.{Received}
-use Rattle.spec_net.specs.Packets.{sent_packet}
-use Rattle.spec_net.specs.Receiving.{count_code, receive_code, receive_bytes}
-use Rattle.spec_net.specs.NetSettle.{has_some}
+use Rattle.spec_udp.specs.declared.point.Received.{Received}
+use Rattle.spec_udp.specs.Packets.{sent_packet}
+use Rattle.spec_udp.specs.Receiving.{count_code, receive_code, receive_bytes}
+use Rattle.spec_udp.specs.Points.{has_some, queue_of, wanted_at, sending_at, local_port, without_oldest, with_sending}
 use Rattle.spec_pend.specs.declared.slot.Part.{Part}
 use Rattle.spec_pend.specs.declared.slot.Part.TheVariants.{Conn, Send, Recv}
 use Rattle.spec_pend.specs.declared.call.NetCall.{NetCall}
@@ -16,7 +16,6 @@ use Rattle.spec_pend.specs.Ends.{ended_as}
 use Rattle.spec_udp.specs.declared.point.Sending.{Sending}
 use Rattle.spec_udp.specs.declared.point.UdpPoint.{UdpPoint}
 use Rattle.spec_udp.specs.PlainUdps.{PlainUdps, UdpSide, UdpOutcome, side_after}
-use Rattle.spec_udp.specs.Points.{queue_of, wanted_at, sending_at, local_port, without_oldest, with_sending}
 
 -- ---- which call is ready
 

@@ -4,4 +4,4 @@
 
 mod point;
 
-pub use point::{Sending, UdpPoint};
+pub use point::{Received, Sending, UdpPoint};

@@ -1,5 +1,11 @@
 use it_types::{Bytes, EndPt, List, ObjId};
-use spec_net::Received;
+
+/// A datagram that has come and is not taken yet: who sent it, and its data.
+#[derive(Debug, Drop)]
+pub struct Received {
+    pub from: EndPt,
+    pub load: Bytes,
+}
 
 /// A datagram that a non-blocking call is to send: where to, and its data.
 #[derive(Debug, Drop)]

@@ -10,8 +10,8 @@ use Rattle.it_types.specs.declared.entry.Entry.{Entry}
 use Rattle.it_types.specs.declared.node_conf.NodeConf.{NodeConf}
 use Rattle.it_types.specs.declared.node_conf.Conf.{Conf}
 use Rattle.it_types.specs.Configuration.{kernel_conf, first_conf, second_conf}
-use Rattle.spec_node.specs.declared.event.NodeEvent.{NodeEvent}
-use Rattle.spec_node.specs.declared.event.NodeEvent.TheVariants.{Call, Return, Tick, Arrive}
+use Rattle.spec_node.specs.declared.event.NodeEv.{NodeEv}
+use Rattle.spec_node.specs.declared.event.NodeEv.TheVariants.{Call, Return, Begin, Finish, Tick, Arrive}
 use Rattle.spec_node.specs.PlainNode.{PlainNode, opened_node}
 use Rattle.spec_node.specs.NodeStep.{node_step}
 
@@ -41,7 +41,7 @@ abbrev pub peer_of : NodeId → NodeId
 peer_of id = record { 0 = if id.0 == 0 then 1 else 0 }
 
 -- an event at one node: the nodes after it, and what it gives
-abbrev pub nodes_step : Nodes → NodeId → NodeEvent → Nodes × Out
+abbrev pub nodes_step : Nodes → NodeId → NodeEv → Nodes × Out
 nodes_step nodes id event = let stepped = node_step (node_at nodes id) event in (with_node nodes id stepped.0, stepped.1)
 
 -- ---- the step
@@ -57,7 +57,7 @@ abbrev pub packet_from : NodeId → List ℕ → Packet
 packet_from id bytes = record { sender = id; bytes = bytes }
 
 -- an event of the world that is this event at one of its nodes, whose packets are sent
-abbrev pub step_at : PlainWorld → NodeId → NodeEvent → Event → PlainWorld × Entry
+abbrev pub step_at : PlainWorld → NodeId → NodeEv → Event → PlainWorld × Entry
 step_at w id node_event event = let stepped = nodes_step w.nodes id node_event in (record { nodes = stepped.0; packets = w.packets ++ map (packet_from id) stepped.1.packs }, entry_of event stepped.1)
 
 -- a packet reaches the node that did not send it
@@ -69,16 +69,16 @@ delivery w number (Some packet) = step_at w (peer_of packet.sender) (Arrive pack
 unfoldable pub step : PlainWorld → Event → PlainWorld × Entry
 step w (events.Call id ctx request) = step_at w id (Call ctx request) (events.Call id ctx request)
 step w (events.Return id task) = step_at w id (Return task) (events.Return id task)
+step w (events.Begin id) = step_at w id Begin (events.Begin id)
+step w (events.Finish id) = step_at w id Finish (events.Finish id)
 step w (events.Tick id) = step_at w id Tick (events.Tick id)
 step w (events.Deliver number) = delivery w number (slice_get w.packets number.0)
-step w (events.Begin id) = (w, plain_entry (events.Begin id))
-step w (events.Finish id) = (w, plain_entry (events.Finish id))
 step w events.Stop = (w, plain_entry events.Stop)
 
 -- ---- the opening
 
 abbrev pub opened_of : NodeConf → PlainNode
-opened_of conf = opened_node (kernel_conf conf) conf.addr
+opened_of conf = opened_node (kernel_conf conf) conf.addr conf.cbrs
 
 abbrev pub opened_world : Conf → PlainWorld
 opened_world conf = record { nodes = record { first = opened_of (first_conf conf); second = opened_of (second_conf conf) }; packets = [] }

@@ -14,7 +14,7 @@ use Rattle.it_types.specs.declared.event.Event.{Event}
 use Rattle.it_types.specs.declared.event.Event.TheVariants as events
 use Rattle.it_types.specs.declared.entry.Entry.{Entry}
 use Rattle.it_types.specs.declared.entry.Out.{Out}
-use Rattle.spec_node.specs.declared.event.NodeEvent.TheVariants.{Call, Return, Tick, Arrive}
+use Rattle.spec_node.specs.declared.event.NodeEv.TheVariants.{Call, Return, Tick, Arrive}
 use Rattle.spec_world.specs.PlainWorld.{Nodes, Packet, PlainWorld, nodes_step, peer_of, packet_from, entry_of, plain_entry, delivery, step}
 use Rattle.w_world.specs.declared.sent.Sent.{Sent}
 use Rattle.w_world.specs.Sending.{bytes_in, packet_in, world_in}

@@ -2,7 +2,7 @@ ghost use Rattle.std.specs.Prelude.{◌≡◌, true, IfOk, nat_le};
 ghost use Rattle.it_types.specs.declared.request.Req.{Req as ARequest};
 ghost use Rattle.it_types.specs.Configuration.{first_conf, kernel_conf, second_conf};
 ghost use Rattle.spec_kernel.specs.Opening.{IsDeclarable};
-ghost use Rattle.spec_node.specs.declared.event.NodeEvent.TheVariants.{Call as Called, Return as Returned, Tick as Ticked, Arrive as Arrived};
+ghost use Rattle.spec_node.specs.declared.event.NodeEv.TheVariants.{Call as Called, Return as Returned, Tick as Ticked, Arrive as Arrived};
 ghost use Rattle.spec_world.specs.PlainWorld.{nodes_step, opened_world};
 ghost use Rattle.spec_world.specs.Admitted.{is_admitted_at};
 ghost use Rattle.w_world.specs.Room.{HaveRoom};

@@ -1,4 +1,4 @@
-use Rattle.spec_net.proofs.FreePorts.{free_port_free, free_port_least}
+use Rattle.spec_udp.proofs.FreePorts.{free_port_free, free_port_least}
 use Rattle.laws_node.proofs.free_port.any_port_is_the_least_free.Goals as goal
 
 -- src/free_port.rt:6:1

@@ -1,15 +1,18 @@
 use Rattle.std.proofs.Common.{ap, sym, ◌∙◌}
+use Rattle.std.proofs.lemmas.Result.{IfOk-weaker}
 use Rattle.net_ip4.specs.Shown.{shown}
-use Rattle.spec_net.specs.PlainNet.{PlainNet}
-use Rattle.spec_net.specs.Packets.{if_for}
-use Rattle.spec_net.specs.NetSettle.{net_settled}
-use Rattle.spec_net.specs.Arrival.{after_arrival, quiet}
-use Rattle.spec_net.proofs.Settling.{net_settled_none}
-use Rattle.e_udp.proofs.Doing.{does_same, rests}
+use Rattle.spec_udp.specs.Packets.{if_for}
+use Rattle.spec_udp.specs.PlainUdps.{PlainUdps}
+use Rattle.spec_udp.specs.Arrival.{after_arrival}
+use Rattle.e_udp.specs.Does.{side}
+use Rattle.e_udp.proofs.Delivering.{quiet_does}
+use Rattle.e_udp.proofs.Doing.{settled_leaves}
 use Rattle.e_udp.proofs.udps.Udps.arrive.Goals as goal
 
-pub returns-in-None : goal.returns-in-None
-returns-in-None c =
-    does_same
-    (ap (λ o. net_settled (quiet (after_arrival c.args.self.now o))) (ap (λ (n : PlainNet). if_for n.addr (shown c.args.d.now)) (sym c.self.view_is) ∙ c.in-None.ensures)
-    ∙ net_settled_none (quiet c.args.self.now) (rests c.self.view_is c.self.invariant.rest)) (c.quiet.ensures c.args.self.now)
+pub returns-in-Some-clause-rest : goal.returns-in-Some-clause-rest
+returns-in-Some-clause-rest c = IfOk-weaker c.deliver.result _ _ (λ o does. settled_leaves _ does) c.deliver.ensures
+
+pub returns-in-None-clause-does : goal.returns-in-None-clause-does
+returns-in-None-clause-does c =
+    quiet_does (after_arrival (side c.args.self.now c.args.pend.now) (if_for c.args.self.now.addr (shown c.args.d.now))) c.requires.rest
+    (ap (after_arrival (side c.args.self.now c.args.pend.now)) (ap (λ (u : PlainUdps). if_for u.addr (shown c.args.d.now)) (sym c.self.view_is) ∙ c.in-None.ensures.read)) c.alone.ensures

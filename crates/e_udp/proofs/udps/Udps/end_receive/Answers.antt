@@ -1,23 +1,16 @@
-use Rattle.std.proofs.Common.{◌<◌, [], ◌∷◌, length, subst, sym}
+use Rattle.std.proofs.Common.{ap, ◌∙◌}
 use Rattle.std.proofs.lemmas.Result.{IfOk-weaker}
-use Rattle.spec_net.specs.PlainNet.{PlainNet}
-use Rattle.spec_net.specs.declared.pending.NetCall.{NetCall}
-use Rattle.spec_net.specs.NetSettle.{received_end}
-use Rattle.e_udp.specs.Deliveries.{wanted}
-use Rattle.e_udp.proofs.Doing.{leaving_does}
-use Rattle.e_udp.proofs.Keeping.{kept_leaving}
+use Rattle.spec_lists.specs.Tables.{get}
+use Rattle.spec_udp.specs.declared.point.Received.{Received}
+use Rattle.spec_udp.specs.Receiving.{receive_bytes, receive_code}
+use Rattle.spec_udp.specs.Points.{wanted_at}
+use Rattle.e_udp.proofs.Delivering.{ends_there}
 use Rattle.e_udp.proofs.udps.Udps.end_receive.Goals as goal
-
-pub invariant_of-self : goal.invariant_of-self
-invariant_of-self c =
-    kept_leaving c.self.invariant c.self.view_is c.args.place c.remove-call.result (subst (λ (n : PlainNet). c.args.place < length n.calls) (sym c.self.view_is) c.requires) c.remove-call.ensures.items
-
-pub invariant_of-self-2 : goal.invariant_of-self-2
-invariant_of-self-2 c =
-    kept_leaving c.self.invariant c.self.view_is c.args.place c.remove-call.result (subst (λ (n : PlainNet). c.args.place < length n.calls) (sym c.self.view_is) c.requires) c.remove-call.ensures.items
 
 pub returns : goal.returns
 returns c =
-    IfOk-weaker c.ending.result _ _
-    (λ o tells. leaving_does c.self.view_is c.args.place c.remove-call.result c.in_ok-end.end (λ (call : NetCall). received_end call (wanted call.request) (record { from = c.args.from; load = c.args.load.now } ∷ [])) c.requires
-    c.remove-call.ensures.value c.remove-call.ensures.items c.in_ok-end.ensures tells) c.ending.ensures
+    let d : Received = record { from = c.args.from; load = c.args.load.now } in
+    let wanted = c.wanted_at-len.ensures.wanted ∙ ap wanted_at (c.point_at.ensures ∙ ap (λ ps. get ps c.args.cep.0) c.deref.ensures.value) in
+    IfOk-weaker c.ending_at.result _ _
+    (λ o shows. ends_there c.args.pend.now c.self.view_is c.requires.rest c.args.cep d c.requires.there c.receive_code-code.result c.as_slice.result.now c.receive_slot.ensures c.requires.waits
+    (c.receive_code-code.ensures c.args.from ∙ ap (λ n. receive_code n d) wanted) (c.as_slice.ensures ∙ c.in_ok-bytes.ensures ∙ ap (λ n. receive_bytes n d) wanted) shows) c.ending_at.ensures

@@ -1,19 +1,19 @@
-use Rattle.std.proofs.Common.{refl, sym}
+use Rattle.std.proofs.Common.{sym}
+use Rattle.std.proofs.lemmas.Result.{IfOk-weaker}
 use Rattle.it_types.specs.declared.request.Req.TheVariants.{UdpCreCep}
 use Rattle.e_udp.specs.Contexts.{context_of}
-use Rattle.e_udp.proofs.Doing.{making_does, refused_does}
-use Rattle.e_udp.proofs.Keeping.{kept_making}
+use Rattle.e_udp.specs.Does.{side}
+use Rattle.e_udp.proofs.Doing.{call_leaves, refused_does}
 use Rattle.e_udp.proofs.udps.Udps.udp_cre_cep.Goals as goal
 
-pub invariant_of-self : goal.invariant_of-self
-invariant_of-self c =
-    kept_making c.self.invariant c.self.view_is (context_of c.args.by) c.args.cep c.args.port c.args.cbr (sym c.in-None.ensures.code)
-    (rw (c.put.ensures, c.in_ok-point-in-None.ensures, c.port_for-port.ensures, c.deref.ensures.value) refl)
+pub returns-in-Some-clause-does : goal.returns-in-Some-clause-does
+returns-in-Some-clause-does c =
+    refused_does (context_of c.args.by) (UdpCreCep c.args.cep c.args.port c.args.cbr) c.args.no c.in-Some.refusal c.requires.rest (c.in-Some.ensures c.args.pend.now) c.code.ensures
 
-pub returns-in-Some : goal.returns-in-Some
-returns-in-Some c = refused_does (context_of c.args.by) (UdpCreCep c.args.cep c.args.port c.args.cbr) c.args.no c.in-Some.code c.in-Some.ensures.rest c.in-Some.ensures.code c.code.ensures
+pub returns-in-None-clause-rest : goal.returns-in-None-clause-rest
+returns-in-None-clause-rest c =
+    IfOk-weaker c.create.result _ _
+    (λ o does. call_leaves (side c.args.self.now c.args.pend.now) (context_of c.args.by) (UdpCreCep c.args.cep c.args.port c.args.cbr) does) c.create.ensures
 
-pub returns-in_ok-point-in-None : goal.returns-in_ok-point-in-None
-returns-in_ok-point-in-None c =
-    making_does c.self.view_is (context_of c.args.by) c.args.cep c.args.port c.args.cbr c.args.no c.self.invariant.rest (sym c.in-None.ensures.code)
-    (rw (c.put.ensures, c.in_ok-point-in-None.ensures, c.port_for-port.ensures, c.deref.ensures.value) refl) c.code-in-None.ensures
+pub create-requires-clause-allowed : goal.create-requires-clause-allowed
+create-requires-clause-allowed c = sym (c.in-None.ensures c.args.pend.now)

@@ -1,4 +1,4 @@
-use Rattle.spec_node.specs.declared.event.NodeEvent.TheVariants.{Arrive}
+use Rattle.spec_node.specs.declared.event.NodeEv.TheVariants.{Arrive}
 use Rattle.n_node.specs.Plain.{plain}
 use Rattle.n_node.proofs.Steps.{stepped_kept}
 use Rattle.n_node.proofs.node.Node.arrive.Goals as goal

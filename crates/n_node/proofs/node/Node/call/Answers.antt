@@ -1,5 +1,5 @@
 use Rattle.it_types.specs.declared.context.Ctx.TheVariants.{Task}
-use Rattle.spec_node.specs.declared.event.NodeEvent.TheVariants.{Call}
+use Rattle.spec_node.specs.declared.event.NodeEv.TheVariants.{Call}
 use Rattle.n_node.specs.Plain.{plain}
 use Rattle.n_node.proofs.Steps.{stepped_kept}
 use Rattle.n_node.proofs.node.Node.call.Goals as goal

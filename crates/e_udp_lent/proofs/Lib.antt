@@ -1,9 +1,0 @@
-pub mod Allowed
-pub mod Delivering
-pub mod Callers
-pub mod Doing
-pub mod FreePorts
-pub mod FromWire
-pub mod NonBlocking
-pub mod Searches
-pub mod Taking
