@@ -7,8 +7,6 @@ mod end_points;
 #[cfg(test)]
 mod ip4;
 #[cfg(test)]
-mod lent_end_points;
-#[cfg(test)]
 mod pending;
 #[cfg(test)]
 mod user_datagrams;
