@@ -5,3 +5,4 @@ pub mod Datagrams
 pub mod Cyclics
 pub mod DueOrder
 pub mod OtherEnds
+pub mod Progressing
