@@ -4,6 +4,8 @@ use Rattle.it_types.specs.declared.conf.TaskDecl.{TaskDecl}
 use Rattle.it_types.specs.declared.conf.SemDecl.{SemDecl}
 use Rattle.it_types.specs.declared.conf.FlgDecl.{FlgDecl}
 use Rattle.it_types.specs.declared.conf.DtqDecl.{DtqDecl}
+use Rattle.it_types.specs.declared.conf.CycDecl.{CycDecl}
+use Rattle.it_types.specs.declared.id.ObjId.{ObjId}
 use Rattle.it_types.specs.declared.node_conf.NodeConf.{NodeConf}
 use Rattle.it_types.specs.declared.node_conf.Conf.{Conf}
 use Rattle.spec_script.specs.declared.script.Script.{Script}
@@ -36,7 +38,19 @@ declared_queues [] = []
 declared_queues (declarations.Dtq queue ∷ ds) = queue ∷ declared_queues ds
 declared_queues (_ ∷ ds) = declared_queues ds
 
--- what a node with these declarations begins with; cyclic handlers and callback routines can't be declared
+-- the cyclic handlers, in the order of their declarations
+abbrev pub declared_cyclics : List Decl → List CycDecl
+declared_cyclics [] = []
+declared_cyclics (declarations.Cyc cyc body ∷ ds) = cyc ∷ declared_cyclics ds
+declared_cyclics (_ ∷ ds) = declared_cyclics ds
+
+-- the callback routines, in the order of their declarations
+abbrev pub declared_routines : List Decl → List ObjId
+declared_routines [] = []
+declared_routines (declarations.Cbr cbr body ∷ ds) = cbr ∷ declared_routines ds
+declared_routines (_ ∷ ds) = declared_routines ds
+
+-- what a node with these declarations begins with
 abbrev pub node_conf : NodeDecl → NodeConf
 node_conf n = record {
   addr = n.addr;
@@ -46,8 +60,8 @@ node_conf n = record {
   sems = declared_semaphores n.decls;
   flags = declared_flags n.decls;
   dtqs = declared_queues n.decls;
-  cycs = [];
-  cbrs = [];
+  cycs = declared_cyclics n.decls;
+  cbrs = declared_routines n.decls;
 }
 
 -- what the two nodes begin with

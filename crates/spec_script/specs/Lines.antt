@@ -7,10 +7,11 @@ use Rattle.spec_script.specs.declared.script.Script.{Script}
 use Rattle.spec_script.specs.declared.script.NodeDecl.{NodeDecl}
 use Rattle.spec_script.specs.declared.decl.Decl.{Decl}
 use Rattle.spec_script.specs.declared.decl.Decl.TheVariants as declarations
+use Rattle.spec_script.specs.declared.decl.Body.{Body}
 use Rattle.spec_script.specs.declared.decl.Line.{Line}
 use Rattle.spec_script.specs.declared.decl.Line.TheVariants as body_lines
 use Rattle.spec_script.specs.declared.script_line.ScriptLine.{ScriptLine}
-use Rattle.spec_script.specs.declared.script_line.ScriptLine.TheVariants.{Itron, Link, Ticks, FirstNode, SecondNode, Sem, Flg, Dtq, Task, Call, End}
+use Rattle.spec_script.specs.declared.script_line.ScriptLine.TheVariants.{Itron, Link, Ticks, FirstNode, SecondNode, Sem, Flg, Dtq, Task, Cyc, Cbr, Call, End}
 use Rattle.spec_script.specs.declared.script_line.NodeLine.{NodeLine}
 
 -- ---- the text of a line, without its LF
@@ -39,6 +40,10 @@ clearing_text clr = choice_text (codes "clr") (codes "keep") clr
 abbrev pub start_text : Bool → List ℕ
 start_text act = choice_text (codes "act") (codes "dor") act
 
+-- whether a cyclic handler runs from the start, or stands
+abbrev pub running_text : Bool → List ℕ
+running_text on = choice_text (codes "on") (codes "off") on
+
 -- a field stands after a space
 abbrev pub field : List ℕ → List ℕ
 field text = codes " " ++ text
@@ -57,6 +62,9 @@ line_text (Flg id pri many clr init) =
     codes "flg" ++ (field (number_text id) ++ (field (order_text pri) ++ (field (waiters_text many) ++ (field (clearing_text clr) ++ field (number_text init)))))
 line_text (Dtq id pri cap) = codes "dtq" ++ (field (number_text id) ++ (field (order_text pri) ++ field (number_text cap)))
 line_text (Task id pri act) = codes "task" ++ (field (number_text id) ++ (field (number_text pri) ++ field (start_text act)))
+line_text (Cyc id period phase on) =
+    codes "cyc" ++ (field (number_text id) ++ (field (number_text period) ++ (field (number_text phase) ++ field (running_text on))))
+line_text (Cbr id) = codes "cbr" ++ field (number_text id)
 line_text (Call request fits) = request_text request
 line_text End = codes "end"
 
@@ -87,11 +95,17 @@ node_line n = record { addr = Some n.addr; isn0 = Some n.isn0; top0 = Some n.top
 abbrev pub body_line : Line → ScriptLine
 body_line (body_lines.Call request) = Call request true
 
+-- a line that opens a body, the body and its end
+abbrev pub with_body : ScriptLine → Body → List ScriptLine
+with_body opening body = opening ∷ (map body_line body.lines ++ End ∷ [])
+
 abbrev pub declaration_lines : Decl → List ScriptLine
-declaration_lines (declarations.Task task body) = Task (Some task.id) (Some task.pri) task.act ∷ (map body_line body.lines ++ End ∷ [])
+declaration_lines (declarations.Task task body) = with_body (Task (Some task.id) (Some task.pri) task.act) body
 declaration_lines (declarations.Sem sem) = Sem (Some sem.id) sem.pri (Some sem.init) (Some sem.max) ∷ []
 declaration_lines (declarations.Flg flag) = Flg (Some flag.id) flag.pri flag.many flag.clr (Some flag.init) ∷ []
 declaration_lines (declarations.Dtq queue) = Dtq (Some queue.id) queue.pri (Some queue.cap) ∷ []
+declaration_lines (declarations.Cyc cyc body) = with_body (Cyc (Some cyc.id) (Some cyc.period) (Some cyc.phase) cyc.on) body
+declaration_lines (declarations.Cbr cbr body) = with_body (Cbr (Some cbr.0)) body
 
 -- the lines before the declarations of node 0
 abbrev pub head_lines : Script → List ScriptLine

@@ -7,12 +7,13 @@ use Rattle.it_types.specs.Lines.{is_writable}
 use Rattle.spec_script.specs.declared.script.Script.{Script}
 use Rattle.spec_script.specs.declared.decl.Decl.{Decl}
 use Rattle.spec_script.specs.declared.decl.Decl.TheVariants as declarations
+use Rattle.spec_script.specs.declared.decl.Body.{Body}
 use Rattle.spec_script.specs.declared.decl.Line.{Line}
 use Rattle.spec_script.specs.declared.decl.Line.TheVariants as body_lines
 use Rattle.spec_script.specs.declared.script_line.ScriptLine.{ScriptLine}
-use Rattle.spec_script.specs.declared.script_line.ScriptLine.TheVariants.{Itron, Link, Ticks, FirstNode, SecondNode, Sem, Flg, Dtq, Task, Call, End}
+use Rattle.spec_script.specs.declared.script_line.ScriptLine.TheVariants.{Itron, Link, Ticks, FirstNode, SecondNode, Sem, Flg, Dtq, Task, Cyc, Cbr, Call, End}
 use Rattle.spec_script.specs.declared.script_line.NodeLine.{NodeLine}
-use Rattle.spec_script.specs.Today.{may_write}
+use Rattle.spec_script.specs.Today.{may_write, is_exit}
 use Rattle.spec_script.specs.Lines.{first_node, second_node, key_of, lines_of}
 
 -- a number from low to high
@@ -38,6 +39,8 @@ is_in_range (Sem id pri init max) = within 1 id 16 && (is_at_most init max && wi
 is_in_range (Flg id pri many clr init) = within 1 id 16 && within 0 init 4294967295
 is_in_range (Dtq id pri cap) = within 1 id 16 && within 0 cap 1024
 is_in_range (Task id pri act) = within 1 id 16 && within 1 pri 16
+is_in_range (Cyc id period phase on) = within 1 id 8 && (within 1 period 1000000 && within 0 phase 1000000)
+is_in_range (Cbr id) = within 1 id 16
 is_in_range (Call request fits) = fits
 is_in_range Itron = true
 is_in_range End = true
@@ -62,12 +65,22 @@ abbrev pub is_queue : ℕ → Decl → Bool
 is_queue id (declarations.Dtq queue) = queue.id == id
 is_queue id _ = false
 
+abbrev pub is_cyclic : ℕ → Decl → Bool
+is_cyclic id (declarations.Cyc cyc body) = cyc.id == id
+is_cyclic id _ = false
+
+abbrev pub is_routine : ℕ → Decl → Bool
+is_routine id (declarations.Cbr cbr body) = cbr.0 == id
+is_routine id _ = false
+
 -- the id of this declaration's kind stands among those before
 abbrev pub is_repeated : List Decl → Decl → Bool
 is_repeated before (declarations.Task task body) = list_any (is_task task.id) before
 is_repeated before (declarations.Sem sem) = list_any (is_semaphore sem.id) before
 is_repeated before (declarations.Flg flag) = list_any (is_flag flag.id) before
 is_repeated before (declarations.Dtq queue) = list_any (is_queue queue.id) before
+is_repeated before (declarations.Cyc cyc body) = list_any (is_cyclic cyc.id) before
+is_repeated before (declarations.Cbr cbr body) = list_any (is_routine cbr.0) before
 
 -- the most bytes of data of a call
 abbrev pub data_limit : ℕ
@@ -80,9 +93,19 @@ is_written_call request = may_write request && is_writable data_limit request
 abbrev pub is_written_line : Line → Bool
 is_written_line (body_lines.Call request) = is_written_call request
 
--- a declaration that can be written: the body of a task isn't too long
+-- a line of a handler's body: a handler is no task that ext_tsk could end
+abbrev pub is_handler_line : Line → Bool
+is_handler_line (body_lines.Call request) = is_written_call request && not (is_exit request)
+
+-- a body whose lines pass the test, and which isn't too long
+abbrev pub is_written_body : (Line → Bool) → Body → Bool
+is_written_body may_have body = nat_le (length body.lines) body_limit && list_all may_have body.lines
+
+-- a declaration that can be written: its body, if it has one, can
 abbrev pub is_written_declaration : Decl → Bool
-is_written_declaration (declarations.Task task body) = nat_le (length body.lines) body_limit && list_all is_written_line body.lines
+is_written_declaration (declarations.Task task body) = is_written_body is_written_line body
+is_written_declaration (declarations.Cyc cyc body) = is_written_body is_handler_line body
+is_written_declaration (declarations.Cbr cbr body) = is_written_body is_handler_line body
 is_written_declaration _ = true
 
 -- each id of a kind is declared once

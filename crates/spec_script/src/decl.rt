@@ -1,4 +1,4 @@
-use it_types::{DtqDecl, FlgDecl, List, Req, SemDecl, TaskDecl};
+use it_types::{CycDecl, DtqDecl, FlgDecl, List, ObjId, Req, SemDecl, TaskDecl};
 
 /// A declaration of a node.
 #[derive(Debug, Drop)]
@@ -7,9 +7,12 @@ pub enum Decl {
     Sem(SemDecl),
     Flg(FlgDecl),
     Dtq(DtqDecl),
+    Cyc(CycDecl, Body),
+    /// A callback routine.
+    Cbr(ObjId, Body),
 }
 
-/// What a task does, line by line.
+/// What a task or a handler does, line by line.
 #[derive(Debug, Drop)]
 pub struct Body {
     pub lines: List<Line>,

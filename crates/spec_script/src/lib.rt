@@ -9,4 +9,4 @@ mod today;
 pub use decl::{Body, Decl, Line};
 pub use script::{NodeDecl, Script};
 pub use script_line::{NodeLine, ScriptLine};
-pub use today::may_write;
+pub use today::{is_exit, may_write};

@@ -44,6 +44,17 @@ pub enum ScriptLine {
         pri: Option<u64>,
         act: bool,
     },
+    /// `cyc ID PERIOD PHASE on`, or with `off`
+    Cyc {
+        id: Option<u64>,
+        period: Option<u64>,
+        phase: Option<u64>,
+        on: bool,
+    },
+    /// `cbr ID`
+    Cbr {
+        id: Option<u64>,
+    },
     /// A call of a body; `fits` says that each of its numbers is in its range.
     Call {
         req: Req,

@@ -1,14 +1,17 @@
 ghost use Rattle.std.specs.Prelude.{◌≡◌};
-ghost use Rattle.spec_script.specs.Today.{is_among, may_write};
+ghost use Rattle.spec_script.specs.Today.{is_among, may_write, is_exit};
 
 use it_types::cursor::is_word;
 use it_types::{Req, Word};
 
-/// The kernel calls that a script may not write: no cyclic handler can be declared.
-pub const NOT_WRITTEN: [Word; 2] = [Word::StaCyc, Word::StpCyc];
-
 /// The calls of the ITRON TCP/IP API that a script may write.
-pub const WRITTEN: [Word; 3] = [Word::UdpCreCep, Word::UdpSndDat, Word::UdpRcvDat];
+pub const WRITTEN: [Word; 5] = [
+    Word::UdpCreCep,
+    Word::UdpDelCep,
+    Word::UdpSndDat,
+    Word::UdpRcvDat,
+    Word::UdpCanCep,
+];
 
 fn is_among(words: &[Word], request: &Req) -> bool
     ensures { result ≡ is_among words.now request.now }
@@ -21,9 +24,12 @@ fn is_among(words: &[Word], request: &Req) -> bool
 pub fn may_write(request: &Req) -> bool
     ensures { result ≡ may_write request.now }
 {
-    if request.kernel().is_some() {
-        !is_among(&NOT_WRITTEN, request)
-    } else {
-        is_among(&WRITTEN, request)
-    }
+    request.kernel().is_some() || is_among(&WRITTEN, request)
+}
+
+/// Whether the call ends the task that makes it: no handler's body has it.
+pub fn is_exit(request: &Req) -> bool
+    ensures { result ≡ is_exit request.now }
+{
+    matches!(request, Req::ExtTsk)
 }
