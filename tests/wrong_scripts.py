@@ -87,9 +87,13 @@ CALLS = {
     b'trcv_dtq': [is_word32, is_time_out],
     b'set_tim': [within(0, 2**63 - 1)],
     b'get_tim': [],
+    b'sta_cyc': [is_word32],
+    b'stp_cyc': [is_word32],
     b'udp_cre_cep': [is_word32, within(0, 65535), is_word32],
+    b'udp_del_cep': [is_word32],
     b'udp_snd_dat': [is_word32, is_destination, is_data, is_time_out],
     b'udp_rcv_dat': [is_word32, is_word32, is_time_out],
+    b'udp_can_cep': [is_word32, one_of(b'all', b'snd_dat', b'rcv_dat')],
 }
 
 DECLARATIONS = {
@@ -97,7 +101,12 @@ DECLARATIONS = {
     b'flg': [within(1, 16), one_of(b'fifo', b'pri'), one_of(b'one', b'many'), one_of(b'clr', b'keep'), is_word32],
     b'dtq': [within(1, 16), one_of(b'fifo', b'pri'), within(0, 1024)],
     b'task': [within(1, 16), within(1, 16), one_of(b'act', b'dor')],
+    b'cyc': [within(1, 8), within(1, 1000000), within(0, 1000000), one_of(b'on', b'off')],
+    b'cbr': [within(1, 16)],
 }
+
+# The declarations that have a body.
+TASK, HANDLERS = b'task', (b'cyc', b'cbr')
 
 
 def fits(forms, words):
@@ -106,9 +115,9 @@ def fits(forms, words):
     return tests is not None and len(words) == len(tests) + 1 and all(test(word) for test, word in zip(tests, words[1:]))
 
 
-def is_call(line):
-    """Whether a line can stand in a body."""
-    return fits(CALLS, line.split(b' '))
+def is_call(line, of_task):
+    """Whether a line can stand in the body of a task, or else of a handler."""
+    return fits(CALLS, line.split(b' ')) and (of_task or line != b'ext_tsk')
 
 
 def is_link(line):
@@ -143,11 +152,11 @@ def are_declarations(lines):
         if not is_declaration(words) or (words[0], words[1]) in declared:
             return False
         declared.add((words[0], words[1]))
-        if words[0] == b'task':
+        if words[0] == TASK or words[0] in HANDLERS:
             if b'end' not in lines[at:]:
                 return False
             end = lines.index(b'end', at)
-            if end - at > 1000 or not all(is_call(line) for line in lines[at:end]):
+            if end - at > 1000 or not all(is_call(line, words[0] == TASK) for line in lines[at:end]):
                 return False
             at = end + 1
     return True
@@ -209,6 +218,8 @@ dtq 16 pri 1024
 task 1 2 act
 #end
 udp_rcv_dat 1 4294967295 nblk
+udp_can_cep 4294967295 rcv_dat
+sta_cyc 4294967295
 twai_sem 1 fevr
 set_tim 9223372036854775807
 twai_flg 16 4294967295 and fevr
@@ -221,6 +232,12 @@ end
 sem 1 fifo 1 1
 flg 1 fifo one clr 0
 dtq 1 fifo 0
+cyc 8 1000000 1000000 off
+stp_cyc 8
+end
+cbr 16
+udp_del_cep 4294967295
+end
 
 # Nothing follows.
 '''
@@ -232,7 +249,7 @@ VALUES = [b'', b'0', b'00', b'01', b'+1', b'-1', b'1', b'2', b'16', b'17', b'255
 
 WORDS = [b'pol', b'nblk', b'fevr', b'FEVR', b'act', b'fifo', b'x', b'x0', b'xab', b'xAB', b'x0g', b'0.0.0.0', b'10.0.0.1', b'10.0.0.2',
          b'10.0.0.2.', b'0.0.0.0:0', b'10.0.0.2:65536', b'sem', b'flg', b'dtq', b'task', b'end', b'node', b'sig_sem', b'ext_tsk',
-         b'get_tid', b'sta_cyc', b'pri', b'many', b'keep', b'dor', b'or', b'#', b'\t']
+         b'get_tid', b'tcp_del_rep', b'cyc', b'cbr', b'on', b'all', b'pri', b'many', b'keep', b'dor', b'or', b'#', b'\t']
 
 
 def lines_of(text):
