@@ -14,6 +14,9 @@ use Rattle.it_types.specs.declared.event.Event.{Event}
 use Rattle.it_types.specs.declared.event.Event.TheVariants as events
 use Rattle.it_types.specs.declared.answer.Ans.{Ans}
 use Rattle.it_types.specs.declared.answer.Ans.TheVariants as answers
+use Rattle.it_types.specs.declared.handler.FnCode.{FnCode}
+use Rattle.it_types.specs.declared.handler.Handler.{Handler}
+use Rattle.it_types.specs.declared.handler.Handler.TheVariants.{Cyc, Cbr}
 use Rattle.it_types.specs.declared.mark.Mark.{Mark}
 use Rattle.it_types.specs.declared.mark.Mark.TheVariants as marks
 use Rattle.it_types.specs.declared.entry.CallEnd.{CallEnd}
@@ -56,6 +59,13 @@ clearing_flag id init = declarations.Flg (record { id = id; pri = false; many = 
 -- a data queue with room for so many items, on which senders wait by arrival
 abbrev pub queue : ℕ → ℕ → Decl
 queue id capacity = declarations.Dtq (record { id = id; pri = false; cap = capacity })
+
+-- a cyclic handler that runs from the start
+abbrev pub cyclic : ℕ → ℕ → ℕ → List Line → Decl
+cyclic id period phase lines = declarations.Cyc (record { id = id; period = period; phase = phase; on = true }) (record { lines = lines })
+
+abbrev pub routine : ℕ → List Line → Decl
+routine id lines = declarations.Cbr (record { 0 = id }) (record { lines = lines })
 
 abbrev pub the_task : ℕ → TaskId
 the_task id = record { 0 = id }
@@ -123,6 +133,13 @@ signals id = calls.signals id
 abbrev pub creates : ℕ → ℕ → Req
 creates cep port = calls.creates cep port 0
 
+-- an end point with a callback routine
+abbrev pub creates_with : ℕ → ℕ → ℕ → Req
+creates_with cep port cbr = calls.creates cep port cbr
+
+abbrev pub cancels : ℕ → FnCode → Req
+cancels cep func = requests.UdpCanCep (record { 0 = cep }) func
+
 abbrev pub sends : ℕ → EndPt → List ℕ → Req
 sends cep dest load = calls.sends cep dest load timeouts.Fevr
 
@@ -143,6 +160,18 @@ called_at node id request answer ends marked = entry (events.Call (record { 0 = 
 
 abbrev pub called : ℕ → Req → Ans → List CallEnd → List Mark → Entry
 called id request answer ends marked = called_at 0 id request answer ends marked
+
+-- a call of the handler that has begun
+abbrev pub called_by_handler : ℕ → Req → Ans → List CallEnd → List Mark → Entry
+called_by_handler node request answer ends marked = entry (events.Call (record { 0 = node }) contexts.Handler request) answer ends marked
+
+-- a handler begins
+abbrev pub begins : ℕ → Handler → Entry
+begins node h = entry (events.Begin (record { 0 = node })) answers.Quiet [] (marks.Entered h ∷ [])
+
+-- the handler that has begun ends
+abbrev pub finishes : ℕ → Entry
+finishes node = entry (events.Finish (record { 0 = node })) answers.Quiet [] []
 
 -- a call that sends a packet
 abbrev pub sent_at : ℕ → ℕ → Req → Ans → List ℕ → Entry
@@ -168,6 +197,9 @@ told bytes = answers.Now (record { 0 = pos 0 }) bytes
 abbrev pub pends : ℕ → Ans
 pends number = answers.Pends (record { 0 = number })
 
+abbrev pub later : ℕ → Ans
+later number = answers.Later (record { 0 = number })
+
 abbrev pub end_with : ℕ → ℤ → List ℕ → CallEnd
 end_with number c bytes = record { call = record { 0 = number }; code = record { 0 = c }; bytes = bytes }
 
@@ -182,6 +214,17 @@ begun id = marks.Begun (record { 0 = id })
 
 abbrev pub run_mark : ℕ → Mark
 run_mark id = marks.Run (record { 0 = id })
+
+-- the mark of a routine of a UDP end point that becomes due
+abbrev pub callback : ℕ → ℕ → FnCode → ℤ → Mark
+callback cbr cep func c = marks.Callback (record { 0 = cbr }) true (record { 0 = cep }) func (record { 0 = c })
+
+abbrev pub cyc : ℕ → Handler
+cyc id = Cyc (record { 0 = id })
+
+-- a callback routine, told of this function at a UDP end point
+abbrev pub cbr : ℕ → ℕ → FnCode → ℤ → Handler
+cbr id cep func c = Cbr (record { 0 = id }) true (record { 0 = cep }) func (record { 0 = c }) []
 
 abbrev pub exits : Req
 exits = calls.exits

@@ -11,12 +11,12 @@ use Rattle.spec_wire.specs.Udp as udp
 use Rattle.spec_kernel.specs.Settle as kernel_settle
 use Rattle.spec_kernel.specs.Time.{due, unblocked}
 use Rattle.spec_kernel.specs.Rows as kernel_rows
-use Rattle.spec_net.specs.Ports.{first_free}
-use Rattle.spec_net.specs.Packets.{arrived_in}
-use Rattle.spec_net.specs.NetSettle as net_settle
-use Rattle.spec_net.specs.UdpRows.{net_call}
-use Rattle.spec_net.specs.Arrival.{arrive}
-use Rattle.spec_net.specs.NetEnds.{ended}
+use Rattle.spec_udp.specs.Packets.{arrived_in}
+use Rattle.spec_udp.specs.Ports.{first_free}
+use Rattle.spec_udp.specs.Settling as udp_settle
+use Rattle.spec_udp.specs.Rows.{udp_call}
+use Rattle.spec_udp.specs.Arrival.{arrive}
+use Rattle.spec_udp.specs.Outside.{ended}
 use Rattle.spec_node.specs.Progress as progress
 use Rattle.spec_node.specs.NodeStep as node
 use Rattle.spec_world.specs.PlainWorld.{step}
@@ -60,5 +60,5 @@ pub exchange :
     (task 1 1 (line (creates 1 1000) ∷ line (delays 1) ∷ line (sends 1 far hi) ∷ []) ∷ [])
     (task 1 1 (line (creates 1 2000) ∷ line (receives 1 1 Fevr) ∷ line (receives 1 1 Pol) ∷ []) ∷ []))
     ≡ first_exchange
-unfolding ones_sum ipv4.written ipv4.refusal udp.written udp.refusal kernel_settle.settle kernel_settle.settled due kernel_rows.call kernel_rows.tick unblocked first_free arrived_in net_settle.settle net_settle.net_settled net_call arrive ended progress.after_kernel progress.time_out progress.timed_out node.kernel_called node.network_called node.arrived node.ticked node.returned node.node_step step next after run
+unfolding ones_sum ipv4.written ipv4.refusal udp.written udp.refusal kernel_settle.settle kernel_settle.settled due kernel_rows.call kernel_rows.tick unblocked first_free arrived_in udp_settle.settle udp_settle.settled udp_call arrive ended progress.after_kernel progress.time_out progress.timed_out node.kernel_called node.network_called node.arrived node.ticked node.returned node.node_step step next after run
 exchange = refl

@@ -9,3 +9,4 @@ pub mod Deadlines
 pub mod Exchange
 pub mod ObjectHistories
 pub mod TaskHistories
+pub mod Handlers

@@ -8,9 +8,9 @@ use Rattle.it_types.specs.declared.entry.Entry.{Entry}
 use Rattle.spec_kernel.specs.Settle as kernel_settle
 use Rattle.spec_kernel.specs.Time.{due, unblocked}
 use Rattle.spec_kernel.specs.Rows as rows
-use Rattle.spec_net.specs.NetSettle as net_settle
-use Rattle.spec_net.specs.UdpRows.{net_call}
-use Rattle.spec_net.specs.NetEnds.{ended}
+use Rattle.spec_udp.specs.Settling as udp_settle
+use Rattle.spec_udp.specs.Rows.{udp_call}
+use Rattle.spec_udp.specs.Outside.{ended}
 use Rattle.spec_node.specs.Progress as progress
 use Rattle.spec_node.specs.NodeStep as node
 use Rattle.spec_world.specs.PlainWorld.{step}
@@ -70,7 +70,7 @@ terminated_history =
     ∷ called 2 (terminates 1) ok (end 2 (negsuc 48) ∷ []) (gone 1 ∷ []) ∷ called 2 exits Quiet [] (gone 2 ∷ run_mark 0 ∷ []) ∷ stop ∷ []
 
 pub terminated : serial (script_of terminated_script) ≡ terminated_history
-unfolding kernel_settle.settle kernel_settle.settled rows.call unblocked net_settle.settle net_settle.net_settled net_call ended progress.after_kernel node.kernel_called node.network_called node.returned node.node_step step next after run
+unfolding kernel_settle.settle kernel_settle.settled rows.call unblocked udp_settle.settle udp_settle.settled udp_call ended progress.after_kernel node.kernel_called node.network_called node.returned node.node_step step next after run
 terminated = refl
 
 -- ---- the system time is set while a wait of 2 ticks is under way, which ends at tick 3 all the same

@@ -1,6 +1,6 @@
--- The schedule: which event of a script is next. It is this project's own. No packet is lost, doubled or delayed: each is
--- delivered once, as soon as it is sent, in the order of sending.
-use Rattle.std.specs.Prelude.{ℕ, ◌+◌, Bool, false, not, ◌&&◌, ◌||◌, List, length, nat_le, nat_lt, ◌==◌, if◌then◌else◌, slice_index, replicate}
+-- The schedule: which event of a script is next. It is this project's own. Handlers come first, before packets and tasks. No
+-- packet is lost, doubled or delayed: each is delivered once, in the order of sending, as soon as it is sent and no handler is due.
+use Rattle.std.specs.Prelude.{ℕ, ◌+◌, Bool, false, not, ◌&&◌, ◌||◌, List, length, Some, None, nat_le, nat_lt, ◌==◌, if◌then◌else◌, slice_index, replicate}
 use Rattle.std.specs.List.{list_any}
 use Rattle.it_types.specs.declared.id.NodeId.{NodeId}
 use Rattle.it_types.specs.declared.id.TaskId.{TaskId}
@@ -15,10 +15,10 @@ use Rattle.spec_script.specs.declared.decl.Decl.{Decl}
 use Rattle.spec_script.specs.declared.script.Script.{Script}
 use Rattle.spec_script.specs.Lines.{first_node, second_node}
 use Rattle.spec_script.specs.Configuration.{conf_of}
-use Rattle.spec_node.specs.PlainNode.{PlainNode, running_task, holds_answer}
+use Rattle.spec_node.specs.PlainNode.{PlainNode, running_task, holds_answer, has_due}
 use Rattle.spec_world.specs.PlainWorld.{Nodes, PlainWorld, step, opened_world}
 use Rattle.spec_world.specs.Sizes.{entry_size}
-use Rattle.spec_sim.specs.Bodies.{next_request, moved_on, after_marks}
+use Rattle.spec_sim.specs.Bodies.{Places, next_request, handler_event, moved_on, after_marks}
 
 -- what the nodes declare, and how many ticks each has at most
 pub record Plan : Type 0 where
@@ -29,8 +29,8 @@ pub record Plan : Type 0 where
 -- the world of a script under way
 pub record PlainPlay : Type 0 where
   pub world : PlainWorld
-  pub first : List ℕ  -- the places of node 0's tasks in their bodies, by task id
-  pub second : List ℕ  -- and those of node 1's
+  pub first : Places  -- of node 0
+  pub second : Places  -- of node 1
   pub delivered : ℕ  -- the packets delivered so far
   pub size : ℕ  -- the bytes of data of the history so far
 
@@ -71,15 +71,26 @@ abbrev pub idle_event : Plan → PlainPlay → Event
 idle_event plan p = if is_over plan p then events.Stop else events.Tick (slower p.world.nodes)
 
 -- the running task of node 0, else that of node 1, else the stop or a tick
-abbrev pub node_event : Plan → PlainPlay → Event
-node_event plan p =
-    if runs p.world.nodes.first then task_event node_0 p.world.nodes.first p.first plan.first (running_task p.world.nodes.first)
-    else if runs p.world.nodes.second then task_event node_1 p.world.nodes.second p.second plan.second (running_task p.world.nodes.second)
+abbrev pub running_event : Plan → PlainPlay → Event
+running_event plan p =
+    if runs p.world.nodes.first then task_event node_0 p.world.nodes.first p.first.tasks plan.first (running_task p.world.nodes.first)
+    else if runs p.world.nodes.second then task_event node_1 p.world.nodes.second p.second.tasks plan.second (running_task p.world.nodes.second)
     else idle_event plan p
 
--- the next packet's delivery where one is outstanding, else what the nodes do
+-- the next packet's delivery where one is outstanding, else what the running tasks do
+abbrev pub packet_event : Plan → PlainPlay → Event
+packet_event plan p = if is_outstanding p then events.Deliver (record { 0 = p.delivered }) else running_event plan p
+
+-- a handler that is due on node 0 begins, else one that is due on node 1, else what follows on handlers
+abbrev pub due_event : Plan → PlainPlay → Event
+due_event plan p = if has_due p.world.nodes.first then events.Begin node_0 else if has_due p.world.nodes.second then events.Begin node_1 else packet_event plan p
+
+-- the handler that has begun on node 0 goes on, else that of node 1, else what follows on it
 unfoldable pub next : Plan → PlainPlay → Event
-next plan p = if is_outstanding p then events.Deliver (record { 0 = p.delivered }) else node_event plan p
+next plan p = elim p.world.nodes.first.begun [
+  | Some h ↦ handler_event node_0 plan.first h p.first.handler
+  | None ↦ elim p.world.nodes.second.begun [ Some h ↦ handler_event node_1 plan.second h p.second.handler | None ↦ due_event plan p ]
+]
 
 -- ---- after an event
 
@@ -94,13 +105,22 @@ is_at id (events.Deliver number) = false
 is_at id events.Stop = false
 
 -- a call of a task moves its place on
-abbrev pub places_onward : List Decl → Event → List ℕ → List ℕ
-places_onward decls (events.Call at (contexts.Task task) request) places = moved_on decls task places
-places_onward decls _ places = places
+abbrev pub tasks_onward : List Decl → Event → List ℕ → List ℕ
+tasks_onward decls (events.Call at (contexts.Task task) request) places = moved_on decls task places
+tasks_onward decls _ places = places
 
--- the places of a node's tasks after an entry: its event moves one on, and each task that began is at its first line
-abbrev pub places_after : NodeId → List Decl → Event → List Mark → List ℕ → List ℕ
-places_after id decls event marked places = if is_at id event then after_marks marked (places_onward decls event places) else places
+-- a handler begins at the first line of its body, and each of its calls moves its place on
+abbrev pub handler_onward : Event → ℕ → ℕ
+handler_onward (events.Call at contexts.Handler request) place = place + 1
+handler_onward (events.Begin at) place = 0
+handler_onward _ place = place
+
+-- the places of a node after an entry: its event moves one on, and each task that began is at the first line of its body
+abbrev pub places_after : NodeId → List Decl → Event → List Mark → Places → Places
+places_after id decls event marked places = record {
+  tasks = if is_at id event then after_marks marked (tasks_onward decls event places.tasks) else places.tasks;
+  handler = if is_at id event then handler_onward event places.handler else places.handler;
+}
 
 abbrev pub delivered_after : Event → ℕ → ℕ
 delivered_after (events.Call id ctx request) delivered = delivered
@@ -129,8 +149,8 @@ abbrev pub plan_of : Script → Plan
 plan_of s = record { first = (first_node s).decls; second = (second_node s).decls; ticks = s.ticks }
 
 -- each task is at the first line of its body
-abbrev pub first_places : List ℕ
-first_places = replicate (greatest_id + 1) 0
+abbrev pub first_places : Places
+first_places = record { tasks = replicate (greatest_id + 1) 0; handler = 0 }
 
 abbrev pub opening : Script → PlainPlay
 opening s = record { world = opened_world (conf_of s); first = first_places; second = first_places; delivered = 0; size = 0 }
