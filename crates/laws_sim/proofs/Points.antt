@@ -1,22 +1,25 @@
 -- The schedule's next event is that of the first point that applies.
 use Rattle.std.proofs.Common.{◌≡◌, ℕ, ◌<◌, ◌≤◌, zero, suc, Bool, true, false, not, ◌&&◌, ◌||◌, List, [], ◌∷◌, length, Option, refl, sym, ap, subst, ◌∙◌, inl, inr}
-use mathlib.Core.Logic.{◌⊎◌}
-use Rattle.std.specs.Prelude.{◌==◌, nat_le}
+use mathlib.Core.Logic.{◌⊎◌, ◌≢◌}
+use Rattle.std.specs.Prelude.{◌==◌, nat_le, is_some, slice_get}
 use Rattle.std.specs.List.{list_any}
 use Rattle.std.proofs.lemmas.Bool.{cases_Bool, eqb-true, eq-eqb, leb-true, leb-false, le-leb, ltb-true, ltb-false}
 use Rattle.it_types.specs.declared.id.NodeId.{NodeId}
 use Rattle.it_types.specs.declared.id.TaskId.{TaskId}
+use Rattle.it_types.specs.declared.handler.Handler.{Handler}
 use Rattle.it_types.specs.declared.entry.Entry.{Entry}
 use Rattle.spec_lists.specs.Tables.{get}
 use Rattle.spec_lists.proofs.Firsts.{cases_of_first}
 use Rattle.spec_kernel.specs.declared.task_block.TaskBlock.{TaskBlock}
 use Rattle.spec_kernel.specs.TaskBlocks.{is_active}
 use Rattle.spec_script.specs.declared.decl.Decl.{Decl}
-use Rattle.spec_node.specs.PlainNode.{PlainNode, running_task}
-use Rattle.spec_sim.specs.Schedule.{Plan, PlainPlay, node_0, node_1, is_outstanding, runs, task_event, is_any_active, is_over, idle_event, node_event, next}
-use Rattle.spec_sim.proofs.Turns.{next_delivers, next_of_nodes, next_of_first, next_of_second, next_of_none}
-use Rattle.laws_sim.specs.Scheduled.{deliveries, IsQuiet, Runs, IsIdle, IsDormant, IsTaskEvent, IsStill, IsOver, IsScheduled}
-use Rattle.laws_sim.specs.Scheduled.{returns, calls, dormant, ticked, delivery, task_of_first, task_of_second, stop, tick_of_first, tick_of_second}
+use Rattle.spec_pend.specs.Ends.{first_due}
+use Rattle.spec_node.specs.PlainNode.{PlainNode, running_task, has_due}
+use Rattle.spec_sim.specs.Bodies.{handler_body, handler_event}
+use Rattle.spec_sim.specs.Schedule.{Plan, PlainPlay, node_0, node_1, is_outstanding, runs, task_event, is_any_active, is_over, idle_event, running_event, packet_event, due_event, next}
+use Rattle.spec_sim.proofs.Turns.{next_of_first_begun, next_of_second_begun, next_of_none_begun, due_on_first, due_on_second, due_on_none, packet_delivered, packet_none, running_on_first, running_on_second, running_on_none}
+use Rattle.laws_sim.specs.Scheduled.{IsDue, NoneHasBegun, HandlersAreOver, IsHandlerEvent, deliveries, IsQuiet, Runs, IsIdle, IsDormant, IsTaskEvent, IsStill, IsOver, IsScheduled}
+use Rattle.laws_sim.specs.Scheduled.{line, end, returns, calls, dormant, ticked, handler_of_first, handler_of_second, begin_on_first, begin_on_second, delivery, task_of_first, task_of_second, stop, tick_of_first, tick_of_second}
 
 -- ---- tests and facts
 
@@ -43,6 +46,25 @@ all_dormant n e = record { tasks = none_active n.kernel.tasks e }
 
 not_active : (n : PlainNode) → IsDormant n → is_any_active n ≡ false
 not_active n h = active_none n.kernel.tasks h.tasks
+
+-- ---- handlers
+
+is_some_first : (due : List Handler) → is_some (first_due due) ≡ true → due ≢ []
+is_some_first [] e = cc
+is_some_first (h ∷ hs) e = λ f. cc
+
+is_none_first : (due : List Handler) → is_some (first_due due) ≡ false → due ≡ []
+is_none_first [] e = refl
+is_none_first (h ∷ hs) e = cc
+
+due_true : (n : PlainNode) → has_due n ≡ true → IsDue n
+due_true n t = record { some = is_some_first n.net.pend.due t }
+
+due_false : (n : PlainNode) → has_due n ≡ false → n.net.pend.due ≡ []
+due_false n f = is_none_first n.net.pend.due f
+
+handler_due : (id : NodeId) (decls : List Decl) (h : Handler) (place : ℕ) → IsHandlerEvent id decls h place (handler_event id decls h place)
+handler_due id decls h place = elim (cases_of_first (slice_get (handler_body decls h) place)) [ inl e ↦ rw e (end e) | inr l ↦ rw l.1 (line l.0 l.1) ]
 
 -- ---- the task's turn
 
@@ -92,15 +114,15 @@ idle_due plan before p q still = elim (cases_Bool (is_over plan p)) [
   ])
 ]
 
-nodes_due : (plan : Plan) (before : List Entry) (p : PlainPlay)
+running_due : (plan : Plan) (before : List Entry) (p : PlainPlay)
     → is_outstanding p ≡ false
     → IsQuiet before p.world
-    → IsScheduled plan before p (node_event plan p)
-nodes_due plan before p q quiet = elim (cases_Bool (runs p.world.nodes.first)) [
-  | inl t ↦ rw (next_of_first plan p t) (task_of_first _ _ quiet (runs_true _ t) (turn_due node_0 p.world.nodes.first p.first plan.first (running_task p.world.nodes.first)))
+    → IsScheduled plan before p (running_event plan p)
+running_due plan before p q quiet = elim (cases_Bool (runs p.world.nodes.first)) [
+  | inl t ↦ rw (running_on_first plan p t) (task_of_first _ _ quiet (runs_true _ t) (turn_due node_0 p.world.nodes.first p.first.tasks plan.first (running_task p.world.nodes.first)))
   | inr f ↦ elim (cases_Bool (runs p.world.nodes.second)) [
-    | inl t ↦ rw (next_of_second plan p f t) (task_of_second _ _ quiet (runs_false _ f) (runs_true _ t) (turn_due node_1 p.world.nodes.second p.second plan.second (running_task p.world.nodes.second)))
-    | inr g ↦ rw (next_of_none plan p f g) (idle_due plan before p q (record { quiet = quiet; first = runs_false _ f; second = runs_false _ g }))
+    | inl t ↦ rw (running_on_second plan p f t) (task_of_second _ _ quiet (runs_false _ f) (runs_true _ t) (turn_due node_1 p.world.nodes.second p.second.tasks plan.second (running_task p.world.nodes.second)))
+    | inr g ↦ rw (running_on_none plan p f g) (idle_due plan before p q (record { quiet = quiet; first = runs_false _ f; second = runs_false _ g }))
   ]
 ]
 
@@ -112,8 +134,34 @@ outstanding_below p t = ltb-true _ _ t
 all_delivered : (p : PlainPlay) → is_outstanding p ≡ false → length p.world.packets ≤ p.delivered
 all_delivered p f = ltb-false _ _ f
 
+packet_due : (plan : Plan) (before : List Entry) (p : PlainPlay)
+    → p.delivered ≡ deliveries before
+    → HandlersAreOver p.world.nodes
+    → IsScheduled plan before p (packet_event plan p)
+packet_due plan before p count over = elim (cases_Bool (is_outstanding p)) [
+  | inl t ↦ rw (packet_delivered plan p t, count) (delivery over (subst (λ (n : ℕ). n < length p.world.packets) count (outstanding_below p t)))
+  | inr f ↦ rw (packet_none plan p f) (running_due plan before p f (record { handlers = over; delivered = subst (λ (n : ℕ). length p.world.packets ≤ n) count (all_delivered p f) }))
+]
+
+-- ---- all points
+
+begin_due : (plan : Plan) (before : List Entry) (p : PlainPlay)
+    → p.delivered ≡ deliveries before
+    → NoneHasBegun p.world.nodes
+    → IsScheduled plan before p (due_event plan p)
+begin_due plan before p count none = elim (cases_Bool (has_due p.world.nodes.first)) [
+  | inl t ↦ rw (due_on_first plan p t) (begin_on_first none (due_true p.world.nodes.first t))
+  | inr f ↦ elim (cases_Bool (has_due p.world.nodes.second)) [
+    | inl t ↦ rw (due_on_second plan p f t) (begin_on_second none (due_false p.world.nodes.first f) (due_true p.world.nodes.second t))
+    | inr g ↦ rw (due_on_none plan p f g) (packet_due plan before p count (record { begun = none; first = due_false p.world.nodes.first f; second = due_false p.world.nodes.second g }))
+  ]
+]
+
 pub next_scheduled : (plan : Plan) (before : List Entry) (p : PlainPlay) → p.delivered ≡ deliveries before → IsScheduled plan before p (next plan p)
-next_scheduled plan before p count = elim (cases_Bool (is_outstanding p)) [
-  | inl t ↦ rw (next_delivers plan p t, count) (delivery (subst (λ (n : ℕ). n < length p.world.packets) count (outstanding_below p t)))
-  | inr f ↦ rw (next_of_nodes plan p f) (nodes_due plan before p f (record { delivered = subst (λ (n : ℕ). length p.world.packets ≤ n) count (all_delivered p f) }))
+next_scheduled plan before p count = elim (cases_of_first p.world.nodes.first.begun) [
+  | inr h ↦ rw (next_of_first_begun plan p h.0 h.1) (handler_of_first h.0 _ h.1 (handler_due node_0 plan.first h.0 p.first.handler))
+  | inl e ↦ elim (cases_of_first p.world.nodes.second.begun) [
+    | inr h ↦ rw (next_of_second_begun plan p h.0 e h.1) (handler_of_second h.0 _ e h.1 (handler_due node_1 plan.second h.0 p.second.handler))
+    | inl f ↦ rw (next_of_none_begun plan p e f) (begin_due plan before p count (record { first = e; second = f }))
+  ]
 ]
