@@ -83,7 +83,7 @@ calls_kept n g = record {
   ceps = g.rests.net.kept.ceps;
 }
 
-agree : (n : PlainNode) → Good n → PartsAgree n
+pub agree : (n : PlainNode) → Good n → PartsAgree n
 agree n g = record {
   same = g.holds.sound.same;
   in_order = calls_kept n g;

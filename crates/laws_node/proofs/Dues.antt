@@ -200,7 +200,7 @@ ticked_once n once =
     same_once first.net.pend.due _ (timed_out_same first)
     (same_once (tick_beginning n).net.pend.due _ (after_kernel_same (tick_beginning n) (kernel_rows.tick n.kernel)) (with_cyclics_once n.net.pend.due (due_at_tick n.kernel.clock) once))
 
-step_once : (n : PlainNode) (event : NodeEv) → DueOnce n → DueOnce (node_step n event).0
+pub step_once : (n : PlainNode) (event : NodeEv) → DueOnce n → DueOnce (node_step n event).0
 unfolding node_step returned begun finished arrived
 step_once n (Call ctx request) once = called_once n ctx request (kernel_of request) once
 step_once n (Return task) once = once

@@ -203,7 +203,8 @@ udp_call_is c (inr e) = ap (λ (slot : Slot). slot.udp) e
 elsewhere : (cep : CepId) (c : NetCall) → IsUdpCall c → is_at true cep c ≡ false → c.slot.cep.0 ≢ cep.0
 elsewhere cep c kind e same = absurd (let f : true ≡ false = sym (and_from (beq c.slot.udp true) (c.slot.cep.0 == cep.0) (ap (λ b. beq b true) (udp_call_is c kind)) (eq-eqb c.slot.cep.0 cep.0 same)) ∙ e in cc)
 
-in_is_at : (cep part : ℕ) (cs : List NetCall) → times (is_in cep part) cs ≤ times (is_at true (record { 0 = cep })) cs
+-- no more wait at a part of an end point than at the end point
+pub in_is_at : (cep part : ℕ) (cs : List NetCall) → times (is_in cep part) cs ≤ times (is_at true (record { 0 = cep })) cs
 in_is_at cep part [] = omega arith
 in_is_at cep part (c ∷ cs) = omega (arith, in_is_at cep part cs, one (is_at true (record { 0 = cep }) c) (part_number c.slot.part == part))
   where

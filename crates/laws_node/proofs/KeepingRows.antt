@@ -27,6 +27,7 @@ use Rattle.spec_pend.specs.declared.call.NetCall.{NetCall}
 use Rattle.spec_pend.specs.Slots.{part_number, part_of, is_at, has_slot, is_named, named, has_number, numbered}
 use Rattle.spec_pend.specs.Slots as slots
 use Rattle.spec_pend.specs.Kept.{IsCep}
+use Rattle.spec_pend.proofs.Found.{all_more}
 use Rattle.spec_udp.specs.Points.{is_wrong_id, has_port, routine_at, queue_of, joined, new_point, with_wanted, with_sending, without_oldest}
 use Rattle.spec_udp.specs.declared.point.UdpPoint.{UdpPoint}
 use Rattle.spec_udp.specs.PlainUdps.{PlainUdps, UdpSide, UdpOutcome, side_after, quiet, greatest_point, queue_limit, opened_udps}
@@ -42,8 +43,8 @@ use Rattle.laws_node.specs.EndPoints.{IsReceive, PointsAreKept}
 use Rattle.laws_node.proofs.RowActs.{either, row_acts}
 use Rattle.laws_node.proofs.NetMoves.{calls_of}
 use Rattle.laws_node.proofs.Alike.{AlikePoint, alike_at, same_points, alike_change, wanted_alike, sending_alike, oldest_alike, after_alike, Shrinks, none_times}
-use Rattle.laws_node.proofs.Keeping.{IsUdpCall, is_in, Kept, alike_kept, joined_kept, told_rightly}
-use Rattle.laws_node.proofs.KeepingPoints.{all_receives, none_elsewhere, receives_at, made_kept, deleted_kept, none_left, where_shrinks}
+use Rattle.laws_node.proofs.Keeping.{IsUdpCall, HasCep, is_in, Kept, alike_kept, joined_kept, told_rightly}
+use Rattle.laws_node.proofs.KeepingPoints.{all_receives, none_elsewhere, receives_at, made_kept, in_is_at, deleted_kept, none_left, where_shrinks}
 
 none_as : (o p : Option UdpPoint) → is_some p ≡ is_some o → is_none o ≡ false → is_none p ≡ false
 none_as None p same there = absurd cc
@@ -206,6 +207,18 @@ module _ (s : UdpSide) (h : RestsKept s) where
     receives = λ cep. omega (arith, receives_at cep.0 s.pend.calls only_receives, h.kept.places cep.0 2);
     routines = h.kept.routines;
   }
+
+-- where only receives wait, and all names are right, it is all that is kept
+pub whole_kept : (s : UdpSide) → PointsAreKept s → ((id : ℕ) → is_unknown s.udps.routines (routine_at (get s.udps.points id)) ≡ false) → AllByRecursion HasCep s.pend.calls → Kept s.udps s.pend.calls
+whole_kept s h known ceps = record {
+  ports = h.ports;
+  queues = h.queues;
+  known = known;
+  kinds = all_more IsReceive IsUdpCall s.pend.calls (λ c receive. inl receive) h.only;
+  ceps = ceps;
+  places = λ cep part. omega (arith, in_is_at cep part s.pend.calls, h.receives (record { 0 = cep }));
+  routines = h.routines;
+}
 
 -- ---- the opening
 

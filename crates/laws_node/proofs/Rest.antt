@@ -12,12 +12,11 @@ use Rattle.it_types.specs.declared.kernel_request.KReq.{KReq}
 use Rattle.it_types.specs.declared.request.Req.{Req}
 use Rattle.it_types.specs.Callers.{caller}
 use Rattle.it_types.specs.Requests.{kernel_of, timeout_of}
-use Rattle.spec_lists.specs.First.{take_first}
-use Rattle.spec_lists.proofs.Firsts.{cases_of_first, take_first-shorter}
+use Rattle.spec_lists.proofs.Firsts.{cases_of_first}
 use Rattle.spec_kernel.specs.declared.outcome.KEnd.{KEnd}
 use Rattle.spec_kernel.specs.PlainKernel.{PlainKernel}
 use Rattle.spec_kernel.specs.Settle.{Outcome, AtRest}
-use Rattle.spec_kernel.specs.Time.{NoneIsPast, due, is_outside_of, unblocked}
+use Rattle.spec_kernel.specs.Time.{NoneIsPast, due}
 use Rattle.spec_kernel.specs.Rows as kernel_rows
 use Rattle.spec_pend.specs.declared.call.Who.{Who}
 use Rattle.spec_pend.specs.declared.call.Who.TheVariants as whos
@@ -35,6 +34,7 @@ use Rattle.spec_node.specs.Handlers.{due_at}
 use Rattle.spec_node.specs.Progress.{Progress, woken_for, woken_by, after_end, after_ends, after_kernel, time_out, timed_out}
 use Rattle.spec_node.specs.NodeStep.{beginning, blocked_where, next_number, kernel_called, network_called, called_as, arrived, tick_beginning, ticked, returned, begun, finished, node_step}
 use Rattle.spec_node.specs.Admitted.{is_admitted}
+use Rattle.spec_node.proofs.Progressing.{after_kernel-waits_le}
 use Rattle.laws_kernel.proofs.Resting.{due_rests, blocked_rests, unblocked_rests}
 use Rattle.laws_kernel.proofs.Settling.{call_rests, tick_rests}
 use Rattle.laws_kernel.proofs.Timing.{due_past, due_shorter, blocked_none_past, unblocked_none_past}
@@ -61,21 +61,6 @@ woken_for_none_past k (whos.Callback t cbr) past = past
 woken_by_none_past : (k : PlainKernel) (es : List NetEnd) → NoneIsPast k → NoneIsPast (woken_by k es)
 woken_by_none_past k [] past = past
 woken_by_none_past k (e ∷ es) past = woken_by_none_past (woken_for k e.who) es (woken_for_none_past k e.who past)
-
-unblocked-waits_le : (k : PlainKernel) (task : TaskId) → length (unblocked k task).0.waits ≤ length k.waits
-unfolding unblocked
-unblocked-waits_le k task = elim (cases_of_first (take_first (is_outside_of task) k.waits)) [
-  | inl none ↦ rw none (omega arith)
-  | inr some ↦ rw some.1 (omega (arith, take_first-shorter (is_outside_of task) k.waits some.0 some.1))
-]
-
-woken_for-waits_le : (k : PlainKernel) (who : Who) → length (woken_for k who).waits ≤ length k.waits
-woken_for-waits_le k (whos.Task t) = unblocked-waits_le k t
-woken_for-waits_le k (whos.Callback t cbr) = omega arith
-
-woken_by-waits_le : (k : PlainKernel) (es : List NetEnd) → length (woken_by k es).waits ≤ length k.waits
-woken_by-waits_le k [] = omega arith
-woken_by-waits_le k (e ∷ es) = omega (arith, woken_for-waits_le k e.who, woken_by-waits_le (woken_for k e.who) es)
 
 blocked_where_rests : (answer : NetAnswer) (k : PlainKernel) (ctx : Ctx) (request : Req) (number : CallNo) → AtRest k → AtRest (blocked_where answer k ctx request number)
 blocked_where_rests net_answers.Pends k ctx request number rest = blocked_rests k (caller ctx) (timeout_of request) number rest
@@ -123,20 +108,6 @@ after_ends_none_past p (e ∷ es) past = after_ends_none_past (after_end p e) es
 after_kernel_none_past : (p : Progress) (o : Outcome) → NoneIsPast o.kernel → NoneIsPast (after_kernel p o).kernel
 unfolding after_kernel
 after_kernel_none_past p o past = after_ends_none_past (record p { kernel = o.kernel }) o.ends past
-
-after_end-waits_le : (p : Progress) (e : KEnd) → length (after_end p e).kernel.waits ≤ length p.kernel.waits
-after_end-waits_le p e = elim (cases_Bool e.outside) [
-  | inl t ↦ rw t (woken_by-waits_le p.kernel (ended p.net e.call e.code).endings.ends)
-  | inr t ↦ rw t (omega arith)
-]
-
-after_ends-waits_le : (p : Progress) (es : List KEnd) → length (after_ends p es).kernel.waits ≤ length p.kernel.waits
-after_ends-waits_le p [] = omega arith
-after_ends-waits_le p (e ∷ es) = omega (arith, after_end-waits_le p e, after_ends-waits_le (after_end p e) es)
-
-after_kernel-waits_le : (p : Progress) (o : Outcome) → length (after_kernel p o).kernel.waits ≤ length o.kernel.waits
-unfolding after_kernel
-after_kernel-waits_le p o = after_ends-waits_le (record p { kernel = o.kernel }) o.ends
 
 -- ---- ends by time
 
@@ -255,7 +226,7 @@ rests_along : (P : PlainNode → Type 0) → ((n : PlainNode) → Rests n → P 
 rests_along P follows n [] rest = follows n rest
 rests_along P follows n (e ∷ es) rest = (follows n rest, rests_along P follows (taken n e) es (taken_rests n e rest))
 
-node_rests : (n : PlainNode) → Rests n → NodeRests n
+pub node_rests : (n : PlainNode) → Rests n → NodeRests n
 node_rests n rest = record { none_ready = rest.kernel; none_past = rest.past; none_met = rest.net.rests; points = points_kept n.net rest.net }
 
 pub rests_from_opening : (conf : KConf) (addr : ℕ) (routines : List ObjId) (es : List NodeEv) → Along NodeRests (opened_node conf addr routines) es

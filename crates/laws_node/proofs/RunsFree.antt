@@ -36,7 +36,7 @@ none_of_any id (c ∷ cs) none = elim (cases_Bool (tells id c.who)) [
   | inr t ↦ rw t (omega (arith, none_of_any id cs (λ number. omega (arith, none number))))
 ]
 
-runs_free : (n : PlainNode) → Holds n → RunsFree n
+pub runs_free : (n : PlainNode) → Holds n → RunsFree n
 runs_free n h =
     let idle = runs_idle n.kernel h.sound.stands in
     record {

@@ -1,5 +1,5 @@
 -- What each admitted event of a node keeps, every list of events keeps in both nodes.
-use Rattle.std.proofs.Common.{◌≡◌, Bool, true, false, List, [], ◌∷◌, refl}
+use Rattle.std.proofs.Common.{◌≡◌, Bool, true, false, List, [], ◌∷◌, refl, arith}
 use Rattle.it_types.specs.declared.event.Event.{Event}
 use Rattle.it_types.specs.declared.node_conf.Conf.{Conf}
 use Rattle.it_types.specs.Configuration.{kernel_conf, first_conf, second_conf}
@@ -10,11 +10,19 @@ use Rattle.spec_node.specs.Admitted as node
 use Rattle.spec_world.specs.PlainWorld.{PlainWorld, step, opened_world}
 use Rattle.spec_world.specs.Admitted.{is_admitted}
 use Rattle.laws_node.specs.Agreement.{PartsAgree}
-use Rattle.laws_node.proofs.Along.{Holds, step_holds, agree, opening_holds}
-use Rattle.laws_node.proofs.Kept as points
+use Rattle.laws_node.specs.EndPoints.{HasKeptPoints}
+use Rattle.laws_node.specs.Running.{Stands, RunsFree}
+use Rattle.laws_node.specs.Due.{DueOnce}
+use Rattle.laws_node.proofs.Agreeing.{Good, agree, step_good, opening_good}
+use Rattle.laws_node.proofs.RunsFree.{runs_free}
+use Rattle.laws_node.proofs.KeepingRows.{points_kept}
+use Rattle.laws_node.proofs.Rest.{Rests}
+use Rattle.laws_node.proofs.Rest as one_node
+use Rattle.laws_node.proofs.Dues.{step_once}
 use Rattle.laws_world.specs.Taken.{CanOpen, taken, OfBoth, OfBothAlong}
-use Rattle.laws_world.specs.BothNodes.{Stands, HasKeptPoints, StandAlong, AgreeAlong, KeptAlong}
-use Rattle.laws_world.proofs.Moves.{Moved, NodesMove, step_moves}
+use Rattle.laws_world.specs.BothNodes.{StandAlong, RunFreeAlong, AgreeAlong, KeptAlong, DueOnceAlong}
+use Rattle.laws_world.proofs.Moves.{Moved, NodesMove, step_moves, AlwaysKept}
+use Rattle.laws_world.proofs.Rest.{opening_kept}
 
 -- each admitted event of a node keeps it
 abbrev pub IsKept : (PlainNode → Type 0) → Type 0
@@ -41,23 +49,37 @@ along P Q kept then w [] h = record { first = then w.nodes.first h.first; second
 along P Q kept then w (event ∷ events) h =
     (record { first = then w.nodes.first h.first; second = then w.nodes.second h.second }, along P Q kept then (taken w event) events (taken_keeps P kept w event h))
 
-opened_holds : (conf : Conf) → CanOpen conf → OfBoth Holds (opened_world conf)
-opened_holds conf can = record {
-  first = opening_holds (kernel_conf (first_conf conf)) (first_conf conf).addr can.first;
-  second = opening_holds (kernel_conf (second_conf conf)) (second_conf conf).addr can.second;
+-- ---- what admitted events keep
+
+opened_good : (conf : Conf) → CanOpen conf → OfBoth Good (opened_world conf)
+opened_good conf can = record {
+  first = opening_good (kernel_conf (first_conf conf)) (first_conf conf).addr (first_conf conf).cbrs can.first;
+  second = opening_good (kernel_conf (second_conf conf)) (second_conf conf).addr (second_conf conf).cbrs can.second;
 }
 
+-- what follows from it holds over every list of events
+good_along : (Q : PlainNode → Type 0) → ((n : PlainNode) → Good n → Q n) → (conf : Conf) (events : List Event) → CanOpen conf → OfBothAlong Q (opened_world conf) events
+good_along Q then conf events can = along Good Q step_good then (opened_world conf) events (opened_good conf can)
+
 pub agree_from_opening : (conf : Conf) (events : List Event) → CanOpen conf → AgreeAlong (opened_world conf) events
-agree_from_opening conf events can = along Holds PartsAgree step_holds agree (opened_world conf) events (opened_holds conf can)
+agree_from_opening conf events can = good_along PartsAgree agree conf events can
 
 pub standing_from_opening : (conf : Conf) (events : List Event) → CanOpen conf → StandAlong (opened_world conf) events
-standing_from_opening conf events can = along Holds Stands step_holds (λ n h. (agree n h).standing) (opened_world conf) events (opened_holds conf can)
+standing_from_opening conf events can = good_along Stands (λ n g. g.holds.sound.stands) conf events can
 
-kept_event : IsKept HasKeptPoints
-kept_event n event can h = (points.kept_along n (event ∷ []) h).1
+pub free_from_opening : (conf : Conf) (events : List Event) → CanOpen conf → RunFreeAlong (opened_world conf) events
+free_from_opening conf events can = good_along RunsFree (λ n g. runs_free n g.holds) conf events can
+
+-- ---- what all events keep
+
+always_along : (P Q : PlainNode → Type 0) → AlwaysKept P → ((n : PlainNode) → P n → Q n) → (w : PlainWorld) (events : List Event) → OfBoth P w → OfBothAlong Q w events
+always_along P Q kept then w events h = along P Q (λ n event can p. kept n event p) then w events h
 
 pub kept_from_opening : (conf : Conf) (events : List Event) → KeptAlong (opened_world conf) events
-kept_from_opening conf events = along HasKeptPoints HasKeptPoints kept_event (λ n h. h) (opened_world conf) events (record {
-  first = points.kept_from_opening (kernel_conf (first_conf conf)) (first_conf conf).addr;
-  second = points.kept_from_opening (kernel_conf (second_conf conf)) (second_conf conf).addr;
-})
+kept_from_opening conf events = always_along Rests HasKeptPoints one_node.step_rests (λ n rest. points_kept n.net rest.net) (opened_world conf) events (opening_kept conf)
+
+opened_once : (conf : Conf) → OfBoth DueOnce (opened_world conf)
+opened_once conf = record { first = λ cyc. omega arith; second = λ cyc. omega arith }
+
+pub once_from_opening : (conf : Conf) (events : List Event) → DueOnceAlong (opened_world conf) events
+once_from_opening conf events = always_along DueOnce DueOnce step_once (λ n h. h) (opened_world conf) events (opened_once conf)

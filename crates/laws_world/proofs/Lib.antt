@@ -1,6 +1,7 @@
 pub mod Moves
 pub mod Rest
 pub mod Both
+pub mod NetPackets
 pub mod Growth
 pub mod Counts
 pub mod Sending

@@ -6,7 +6,7 @@ use Rattle.it_types.specs.declared.id.PackNo.{PackNo}
 use Rattle.it_types.specs.declared.event.Event.{Event}
 use Rattle.it_types.specs.declared.event.Event.TheVariants as events
 use Rattle.spec_node.specs.declared.event.NodeEv.{NodeEv}
-use Rattle.spec_node.specs.declared.event.NodeEv.TheVariants.{Call, Return, Tick, Arrive}
+use Rattle.spec_node.specs.declared.event.NodeEv.TheVariants.{Call, Return, Begin, Finish, Tick, Arrive}
 use Rattle.spec_node.specs.PlainNode.{PlainNode}
 use Rattle.spec_node.specs.NodeStep.{node_step}
 use Rattle.spec_node.specs.Admitted as node
@@ -57,13 +57,17 @@ pub step_moves : (w : PlainWorld) (event : Event) → NodesMove (is_admitted w e
 unfolding step
 step_moves w (events.Call id ctx request) = at_moves _ w.nodes id (Call ctx request) (admitted_part w.nodes id (Call ctx request))
 step_moves w (events.Return id task) = at_moves _ w.nodes id (Return task) (admitted_part w.nodes id (Return task))
+step_moves w (events.Begin id) = at_moves _ w.nodes id Begin (admitted_part w.nodes id Begin)
+step_moves w (events.Finish id) = at_moves _ w.nodes id Finish (admitted_part w.nodes id Finish)
 step_moves w (events.Tick id) = at_moves _ w.nodes id Tick (admitted_part w.nodes id Tick)
 step_moves w (events.Deliver number) = delivery_moves _ w number (slice_get w.packets number.0)
-step_moves w (events.Begin id) = record { first = stays refl; second = stays refl }
-step_moves w (events.Finish id) = record { first = stays refl; second = stays refl }
 step_moves w events.Stop = record { first = stays refl; second = stays refl }
 
--- what each event of a node keeps, a move keeps
-pub move_keeps : (P : PlainNode → Type 0) (admitted : Bool) (n m : PlainNode) → ((event : NodeEv) → P (node_step n event).0) → P n → Moved admitted n m → P m
+-- each event of a node keeps it, admitted or not
+abbrev pub AlwaysKept : (PlainNode → Type 0) → Type 0
+AlwaysKept P = (n : PlainNode) (event : NodeEv) → P n → P (node_step n event).0
+
+-- then a move keeps it
+pub move_keeps : (P : PlainNode → Type 0) (admitted : Bool) (n m : PlainNode) → AlwaysKept P → P n → Moved admitted n m → P m
 move_keeps P admitted n m keeps h (stays same) = rw same h
-move_keeps P admitted n m keeps h (moves event can after) = rw after (keeps event)
+move_keeps P admitted n m keeps h (moves event can after) = rw after (keeps n event h)

@@ -23,10 +23,10 @@ pub step_sends : (w : PlainWorld) (event : Event) → Sends w event (step w even
 unfolding step
 step_sends w (events.Call id ctx request) = refl
 step_sends w (events.Return id task) = refl
+step_sends w (events.Begin id) = refl
+step_sends w (events.Finish id) = refl
 step_sends w (events.Tick id) = refl
 step_sends w (events.Deliver number) = delivery_sends w number (slice_get w.packets number.0)
-step_sends w (events.Begin id) = sym (append-nil w.packets)
-step_sends w (events.Finish id) = sym (append-nil w.packets)
 step_sends w events.Stop = sym (append-nil w.packets)
 
 -- the packets after the entries of a run, from any world on

@@ -5,11 +5,13 @@
 mod agreement;
 mod at_rest;
 mod end_points;
+mod handlers;
 mod packets;
-mod runnable;
+mod running;
 
 pub use agreement::parts_agree_in_both_nodes;
 pub use at_rest::no_call_waits_too_long;
 pub use end_points::end_points_are_kept_in_both_nodes;
+pub use handlers::cyclic_handlers_are_due_once;
 pub use packets::packets_are_those_of_the_entries;
-pub use runnable::runnable_tasks_are_exact;
+pub use running::{runnable_tasks_are_exact, running_tasks_wait_for_nothing};
