@@ -53,6 +53,8 @@ enum Step<'a> {
     Cancel(u32, FnCode),
     /// A user datagram comes from 10.0.0.2.
     Arrive(&'a [u8]),
+    /// The data of a datagram come from 10.0.0.2, for an address and with a protocol.
+    ArriveFor(u32, u8, &'a [u8]),
     /// The call of a number ends by time.
     TimeOut(u32),
 }
@@ -96,6 +98,16 @@ fn code(code: Er) -> Shown<'static> {
     only(Told::Answer(code, b""))
 }
 
+fn from_peer(dst: u32, proto: u8, load: &[u8]) -> Datagram<'_> {
+    Datagram {
+        src: PEER,
+        dst,
+        proto,
+        ttl: 64,
+        load,
+    }
+}
+
 fn carry_out(
     rt: &impl Abort,
     alloc: Global,
@@ -134,15 +146,9 @@ fn carry_out(
         Step::Cancel(cep, func) => {
             udps.udp_can_cep(alloc, pend, TASK, CallNo(0), 0, CepId(cep), func)
         }
-        Step::Arrive(load) => {
-            let datagram = Datagram {
-                src: PEER,
-                dst: HERE,
-                proto: 17,
-                ttl: 64,
-                load,
-            };
-            udps.arrive(alloc, pend, &datagram, 0)
+        Step::Arrive(load) => udps.arrive(alloc, pend, &from_peer(HERE, 17, load), 0),
+        Step::ArriveFor(dst, proto, load) => {
+            udps.arrive(alloc, pend, &from_peer(dst, proto, load), 0)
         }
         Step::TimeOut(no) => udps.end(alloc, pend, CallNo(no), E_TMOUT, 2),
     }
@@ -656,6 +662,66 @@ fn a_routine_is_told_only_of_a_datagram_that_joins(rt: HostRuntime) -> Result<()
         ("without a routine", Step::Delete(1), code(E_OK)),
         PLAIN,
         ("nobody is told", Step::Arrive(HI), only(Told::Nothing)),
+    ];
+    expect_steps(&rt, rt.alloc(), &steps)?;
+    Ok(())
+}
+
+// The IPv4 header's words without the checksum are 4500, 05dc, 0000, 4000, 4011, 0a00, 0001, 0a00 and 0002: they add up to
+// def0. Those of the pseudo header, the ports and the two lengths are 0a00, 0001, 0a00, 0002, 0011, 03e8, 07d0, 05c8 and
+// 05c8: with 6869 of the data they add up to 93c5.
+#[test]
+fn sends_the_greatest_datagram(rt: HostRuntime) -> Result<(), Fail> {
+    let mut udps = Udps::open(rt.alloc(), HERE, &[ROUTINE])?;
+    let mut pend = Pend::open(rt.alloc())?;
+    carry_out(&rt, rt.alloc(), &mut udps, &mut pend, PLAIN.1)?;
+    let mut load = [0; 1472];
+    load[0] = b'h';
+    load[1] = b'i';
+    let step = Step::Send(1, 1, TO_PEER, &load, Tmo::Fevr);
+    let out = carry_out(&rt, rt.alloc(), &mut udps, &mut pend, step)?;
+    expect_answer(&rt, &out.ans, Told::Answer(Er(1472), b""), "a send");
+    let mut expected = Vec::from_slice(
+        rt.alloc(),
+        b"\x45\x00\x05\xdc\x00\x00\x40\x00\x40\x11\x21\x0f\x0a\x00\x00\x01\x0a\x00\x00\x02\x03\xe8\x07\xd0\x05\xc8\x6c\x3a",
+    )?;
+    expected.extend_from_slice(&load)?;
+    assert_eq!(rt; out.packs.len(), 1);
+    if let Some(packet) = out.packs.as_slice().first() {
+        assert_eq!(rt; packet.as_slice(), expected.as_slice());
+    }
+    Ok(())
+}
+
+#[test]
+fn what_is_not_for_the_node_is_dropped(rt: HostRuntime) -> Result<(), Fail> {
+    let poll = Step::Receive(0, 1, 1, 100, Tmo::Pol);
+    let nothing = code(E_TMOUT);
+    let dropped = only(Told::Nothing);
+    let steps = [
+        WITH_ROUTINE,
+        ("another address", Step::ArriveFor(PEER, 17, HI), dropped),
+        ("after another address", poll, nothing),
+        ("another protocol", Step::ArriveFor(HERE, 6, HI), dropped),
+        ("after another protocol", poll, nothing),
+        (
+            "another port",
+            Step::Arrive(b"\x07\xd0\x03\xe9\x00\x0a\x00\x00hi"),
+            dropped,
+        ),
+        ("after another port", poll, nothing),
+        (
+            "a wrong checksum",
+            Step::Arrive(b"\x07\xd0\x03\xe8\x00\x0a\x00\x01hi"),
+            dropped,
+        ),
+        ("after a wrong checksum", poll, nothing),
+        (
+            "a byte missing",
+            Step::Arrive(b"\x07\xd0\x03\xe8\x00\x0a\x00\x00h"),
+            dropped,
+        ),
+        ("after a byte missing", poll, nothing),
     ];
     expect_steps(&rt, rt.alloc(), &steps)?;
     Ok(())
