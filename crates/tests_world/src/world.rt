@@ -1,7 +1,7 @@
 use it_types::{
-    Ans, Bytes, CallNo, CepId, Conf, Ctx, CycDecl, DtqDecl, E_BOVR, E_NOSPT, E_OK, EndPt, Entry,
-    Er, Event, FlgDecl, List, NoMemory, NodeConf, NodeId, ObjId, PackNo, RepId, Req, SemDecl,
-    TaskDecl, TaskId, Tmo,
+    Ans, Bytes, CallNo, CepId, Conf, Ctx, CycDecl, DtqDecl, E_BOVR, E_CTX, E_NOSPT, E_OK, EndPt,
+    Entry, Er, Event, FlgDecl, List, NoMemory, NodeConf, NodeId, ObjId, PackNo, RepId, Req,
+    SemDecl, TaskDecl, TaskId, Tmo,
 };
 use std::alloc::Global;
 use std::process::Abort;
@@ -320,6 +320,71 @@ fn a_call_of_no_part_is_answered_at_once(rt: HostRuntime) -> Result<(), Fail> {
     let deletes = Req::TcpDelRep { rep: RepId(1) };
     take(&rt, alloc, &mut world, call(0, 1, deletes));
     expect_answer(&rt, &world, E_NOSPT, b"");
+    Ok(())
+}
+
+fn by_handler(node: u8, request: Req) -> Event {
+    Event::Call(NodeId(node), Ctx::Handler, request)
+}
+
+// Two nodes as above; node 0 has a cyclic handler too that is due at each tick.
+fn two_nodes_with_a_handler(rt: &impl Abort, alloc: Global) -> Result<World, NoMemory> {
+    let mut conf = two_nodes(alloc)?;
+    conf.nodes[0].cycs.push(CycDecl {
+        id: 1,
+        period: 1,
+        phase: 0,
+        on: true,
+    })?;
+    assert!(rt; World::can_open(&conf));
+    World::open(alloc, &conf)
+}
+
+// What node 0 refuses where a handler is due and none has begun.
+fn refuse_what_waits_for_a_handler(rt: &impl Abort, alloc: Global, world: &mut World) {
+    for ev in [
+        call(0, 1, Req::GetTid),
+        returns(0, 1),
+        by_handler(0, Req::GetTid),
+        Event::Finish(NodeId(0)),
+        Event::Begin(NodeId(1)),
+    ] {
+        refuse(rt, alloc, world, ev, WErr::NotAdmitted);
+    }
+}
+
+#[test]
+fn handlers_come_before_tasks(rt: HostRuntime) -> Result<(), Fail> {
+    let alloc = rt.alloc();
+    let mut world = two_nodes_with_a_handler(&rt, alloc)?;
+    take(&rt, alloc, &mut world, Event::Tick(NodeId(0)));
+    refuse_what_waits_for_a_handler(&rt, alloc, &mut world);
+    take(&rt, alloc, &mut world, Event::Begin(NodeId(0)));
+    take(&rt, alloc, &mut world, by_handler(0, Req::GetTid));
+    expect_answer(&rt, &world, E_OK, b"\0\0\0\x01");
+    take(&rt, alloc, &mut world, by_handler(0, Req::DlyTsk { ms: 0 }));
+    expect_answer(&rt, &world, E_CTX, b"");
+    refuse(
+        &rt,
+        alloc,
+        &mut world,
+        call(0, 1, Req::GetTid),
+        WErr::NotAdmitted,
+    );
+    // It is due again, and begins again only when it is over.
+    take(&rt, alloc, &mut world, Event::Tick(NodeId(0)));
+    refuse(
+        &rt,
+        alloc,
+        &mut world,
+        Event::Begin(NodeId(0)),
+        WErr::NotAdmitted,
+    );
+    take(&rt, alloc, &mut world, Event::Finish(NodeId(0)));
+    refuse_what_waits_for_a_handler(&rt, alloc, &mut world);
+    take(&rt, alloc, &mut world, Event::Begin(NodeId(0)));
+    take(&rt, alloc, &mut world, Event::Finish(NodeId(0)));
+    take(&rt, alloc, &mut world, call(0, 1, Req::GetTid));
     Ok(())
 }
 
