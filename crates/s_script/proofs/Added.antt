@@ -5,15 +5,16 @@ use Rattle.std.proofs.lemmas.Bool.{and_parts}
 use Rattle.std.proofs.lemmas.List.{append-nil, map-append}
 use Rattle.std.proofs.lemmas.List.Concat.{flat_map-append}
 use Rattle.spec_script.specs.declared.script_line.ScriptLine.{ScriptLine}
-use Rattle.spec_script.specs.declared.script_line.ScriptLine.TheVariants.{Itron, Link, Ticks, FirstNode, SecondNode, Sem, Flg, Dtq, Task, Call, End}
+use Rattle.spec_script.specs.declared.script_line.ScriptLine.TheVariants.{Itron, Link, Ticks, FirstNode, SecondNode, Sem, Flg, Dtq, Task, Cyc, Cbr, Call, End}
 use Rattle.spec_script.specs.declared.script_line.NodeLine.{NodeLine}
 use Rattle.spec_script.specs.declared.script.NodeDecl.{NodeDecl}
 use Rattle.spec_script.specs.Lines.{node_line, declaration_lines}
 use Rattle.spec_script.specs.Ranges.{within, is_at_most, is_node_in_range, is_in_range}
 use Rattle.s_script.specs.declared.draft.Stage.{Stage}
-use Rattle.s_script.specs.declared.draft.Stage.TheVariants.{Start, Headed, Linked, Timed, Declares, InTask}
+use Rattle.s_script.specs.declared.draft.Stage.TheVariants.{Start, Headed, Linked, Timed, Declares, InBody}
 use Rattle.s_script.specs.declared.draft.Draft.{Draft}
 use Rattle.s_script.specs.Drafts.{head_of, lines_before, begun, lines_at, is_last, in_place, node_of, moved}
+use Rattle.s_script.proofs.Owned.{lines_owned}
 
 -- ---- numbers in their ranges are there
 
@@ -56,7 +57,7 @@ second_added d n none range =
     ∙ ap (λ (o : Option NodeDecl). (lines_before d.key d.ticks o (node_line d.node) ++ ds) ++ (SecondNode n ∷ [])) (sym none)
 
 -- a line in its place and its ranges is the next line of the draft
-pub added : (stage : Stage) (d : Draft) (l : ScriptLine) → in_place stage (is_last d) l ≡ true → is_in_range l ≡ true → lines_at (moved d l).stage (moved d l) ≡ lines_at stage d ++ (l ∷ [])
+pub added : (stage : Stage) (d : Draft) (l : ScriptLine) → in_place stage (is_last d) d.owner l ≡ true → is_in_range l ≡ true → lines_at (moved d l).stage (moved d l) ≡ lines_at stage d ++ (l ∷ [])
 added Start d Itron place range = refl
 added Headed d (Link key) place range = rw (within_is 0 key _ range) refl
 added Linked d (Ticks ticks) place range = rw (within_is 0 ticks _ range) refl
@@ -74,8 +75,13 @@ added Declares d (Dtq id pri cap) place range =
 added Declares d (Task id pri act) place range =
     let bounds = and_parts (within 1 id 16) (within 1 pri 16) range in
     rw (within_is 1 id _ bounds.0, within_is 1 pri _ bounds.1) (sym (append_assoc (begun d) (flat_map declaration_lines d.node.decls) (Task id pri act ∷ [])))
+added Declares d (Cyc id period phase on) place range =
+    let bounds = and_parts (within 1 id 8) _ range in
+    let times = and_parts (within 1 period 1000000) (within 0 phase 1000000) bounds.1 in
+    rw (within_is 1 id _ bounds.0, within_is 1 period _ times.0, within_is 0 phase _ times.1) (sym (append_assoc (begun d) (flat_map declaration_lines d.node.decls) (Cyc id period phase on ∷ [])))
+added Declares d (Cbr id) place range = rw (within_is 1 id _ range) (sym (append_assoc (begun d) (flat_map declaration_lines d.node.decls) (Cbr id ∷ [])))
 added Declares d (SecondNode n) place range = second_added d n (none_is d.first place) range
-added InTask d (Call request true) place range = simp (map-append, append_assoc)
-added InTask d (Call request false) place range = absurd (let none : false ≡ true = range in cc)
-added InTask d End place range = simp (flat_map-append, append_assoc, append-nil)
+added InBody d (Call request true) place range = simp (map-append, append_assoc)
+added InBody d (Call request false) place range = absurd (let none : false ≡ true = range in cc)
+added InBody d End place range = rw (flat_map-append, lines_owned d.owner (record { lines = d.body })) (simp (append_assoc, append-nil))
 added _ _ _ place range = absurd (let none : false ≡ true = place in cc)

@@ -13,13 +13,13 @@ use Rattle.it_types.specs.Requests.{word_text, parts_of}
 use Rattle.it_types.proofs.Finding.{found_passes}
 use Rattle.it_types.proofs.LineLaws.{read_again, row, request_split}
 use Rattle.spec_script.specs.declared.script_line.ScriptLine.{ScriptLine}
-use Rattle.spec_script.specs.declared.script_line.ScriptLine.TheVariants.{Itron, Link, Ticks, FirstNode, SecondNode, Sem, Flg, Dtq, Task, Call, End}
+use Rattle.spec_script.specs.declared.script_line.ScriptLine.TheVariants.{Itron, Link, Ticks, FirstNode, SecondNode, Sem, Flg, Dtq, Task, Cyc, Cbr, Call, End}
 use Rattle.spec_script.specs.Lines.{line_text}
 use Rattle.spec_script.specs.Today.{may_write}
 use Rattle.spec_script.specs.Ranges.{is_in_range, data_limit, is_written_call}
 use Rattle.s_script.specs.LineKinds.{Kinds, kinds, by_word, line_of}
 use Rattle.s_script.proofs.LineTakes.{is_written}
-use Rattle.s_script.proofs.LineAgain.{itron_again, link_again, ticks_again, first_node_again, second_node_again, sem_again, flg_again, dtq_again, task_again, end_again}
+use Rattle.s_script.proofs.LineAgain.{itron_again, link_again, ticks_again, first_node_again, second_node_again, sem_again, flg_again, dtq_again, task_again, cyc_again, cbr_again, end_again}
 
 -- ---- calls
 
@@ -66,6 +66,8 @@ line_again (Sem id pri init max) range written = sem_again id pri init max range
 line_again (Flg id pri many clr init) range written = flg_again id pri many clr init range
 line_again (Dtq id pri cap) range written = dtq_again id pri cap range
 line_again (Task id pri act) range written = task_again id pri act range
+line_again (Cyc id period phase on) range written = cyc_again id period phase on range
+line_again (Cbr id) range written = cbr_again id range
 line_again (Call request true) range written = call_again request written
 line_again (Call request false) range written = absurd (let none : false ≡ true = range in cc)
 line_again End range written = end_again

@@ -17,7 +17,7 @@ use Rattle.spec_script.specs.Today.{may_write}
 use Rattle.spec_script.specs.Ranges.{data_limit}
 use Rattle.s_script.specs.LineKinds.{written_line, call_line, Kinds, kinds, by_word, line_of}
 use Rattle.s_script.proofs.LineFields.{either}
-use Rattle.s_script.proofs.LineTakes.{Takes, itron_takes, link_takes, ticks_takes, node_kind_takes, sem_takes, flg_takes, dtq_takes, task_takes, end_takes}
+use Rattle.s_script.proofs.LineTakes.{Takes, itron_takes, link_takes, ticks_takes, node_kind_takes, sem_takes, flg_takes, dtq_takes, task_takes, cyc_takes, cbr_takes, end_takes}
 
 -- ---- calls
 
@@ -58,7 +58,7 @@ by_word_takes (kind ∷ ks) all word bytes l e =
 
 -- each kind does
 all_take : AllByRecursion KindTakes kinds
-all_take = (itron_takes, (link_takes, (ticks_takes, (node_kind_takes, (sem_takes, (flg_takes, (dtq_takes, (task_takes, (end_takes, tt)))))))))
+all_take = (itron_takes, (link_takes, (ticks_takes, (node_kind_takes, (sem_takes, (flg_takes, (dtq_takes, (task_takes, (cyc_takes, (cbr_takes, (end_takes, tt)))))))))))
 
 -- ---- all lines
 

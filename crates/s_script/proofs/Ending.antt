@@ -6,7 +6,7 @@ use Rattle.spec_script.specs.declared.script_line.ScriptLine.{ScriptLine}
 use Rattle.spec_script.specs.declared.script_line.ScriptLine.TheVariants.{Itron, Link, Ticks, FirstNode, SecondNode, End}
 use Rattle.spec_script.specs.declared.script_line.NodeLine.{NodeLine}
 use Rattle.s_script.specs.declared.draft.Stage.{Stage}
-use Rattle.s_script.specs.declared.draft.Stage.TheVariants.{Start, Headed, Linked, Timed, Declares, InTask}
+use Rattle.s_script.specs.declared.draft.Stage.TheVariants.{Start, Headed, Linked, Timed, Declares, InBody}
 use Rattle.s_script.specs.declared.draft.Draft.{Draft}
 use Rattle.s_script.specs.Drafts.{lines_at, is_last, moved}
 use Rattle.s_script.specs.Reading.{is_whole}
@@ -78,8 +78,8 @@ from_declares d e k =
     ]
 
 -- in a body `end` is missing, and then node 1
-from_task : (d : Draft) → d.stage ≡ InTask → Kept d → Ends d
-from_task d e k = ends_with d End k (record { place = rw e refl; range = refl; room = refl; fresh = refl }) refl (from_declares (moved d End) refl)
+from_body : (d : Draft) → d.stage ≡ InBody → Kept d → Ends d
+from_body d e k = ends_with d End k (record { place = rw e refl; range = refl; room = refl; fresh = refl }) refl (from_declares (moved d End) refl)
 
 -- after `ticks` both nodes are missing
 from_timed : (d : Draft) → d.stage ≡ Timed → Kept d → Ends d
@@ -104,7 +104,7 @@ by_stage Headed d e k = from_headed d e k
 by_stage Linked d e k = from_linked d e k
 by_stage Timed d e k = from_timed d e k
 by_stage Declares d e k = from_declares d e k
-by_stage InTask d e k = from_task d e k
+by_stage InBody d e k = from_body d e k
 
 -- each draft that keeps what drafts keep can be ended
 pub ends : (d : Draft) → Kept d → Ends d

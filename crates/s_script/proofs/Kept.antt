@@ -1,6 +1,6 @@
 -- What a draft keeps, line after line.
-use Rattle.std.proofs.Common.{◌≡◌, ◌≢◌, ℕ, ◌≤◌, Bool, true, false, not, ◌&&◌, cond, eqb, List, [], ◌∷◌, ◌++◌, length, Option, Some, None, unwrap_or, refl, append_assoc, arith}
-use Rattle.std.specs.List.{list_all, list_any}
+use Rattle.std.proofs.Common.{◌≡◌, ◌≢◌, ℕ, ◌≤◌, Bool, true, false, not, ◌&&◌, cond, eqb, List, [], ◌∷◌, ◌++◌, length, Option, Some, None, unwrap_or, refl, ◌∙◌, append_assoc, arith}
+use Rattle.std.specs.List.{list_all}
 use Rattle.std.proofs.lemmas.Bool.{and_parts, not-true, eqb-false, ltb-true, le-leb}
 use Rattle.std.proofs.lemmas.List.{append-nil, length_push}
 use Rattle.std.proofs.lemmas.List.Folds.{list_all-append}
@@ -8,15 +8,20 @@ use Rattle.it_types.specs.declared.request.Req.{Req}
 use Rattle.spec_script.specs.declared.script.NodeDecl.{NodeDecl}
 use Rattle.spec_script.specs.declared.decl.Decl.{Decl}
 use Rattle.spec_script.specs.declared.decl.Decl.TheVariants as declarations
+use Rattle.spec_script.specs.declared.decl.Body.{Body}
 use Rattle.spec_script.specs.declared.decl.Line.TheVariants as body_lines
 use Rattle.spec_script.specs.declared.script_line.ScriptLine.{ScriptLine}
-use Rattle.spec_script.specs.declared.script_line.ScriptLine.TheVariants.{Itron, Link, Ticks, FirstNode, SecondNode, Sem, Flg, Dtq, Task, Call, End}
-use Rattle.spec_script.specs.Ranges.{is_in_range, is_task, is_repeated, is_written_line, is_written_declaration, are_distinct, AreGood}
+use Rattle.spec_script.specs.declared.script_line.ScriptLine.TheVariants.{Itron, Link, Ticks, FirstNode, SecondNode, Sem, Flg, Dtq, Task, Cyc, Cbr, Call, End}
+use Rattle.spec_script.specs.Ranges.{is_in_range, is_repeated, is_written_declaration, are_distinct, AreGood}
 use Rattle.s_script.specs.declared.read_bad.Why.TheVariants.{Form, Range, Twice}
 use Rattle.s_script.specs.declared.draft.Stage.{Stage}
-use Rattle.s_script.specs.declared.draft.Stage.TheVariants.{Declares, InTask}
+use Rattle.s_script.specs.declared.draft.Stage.TheVariants.{Declares, InBody}
 use Rattle.s_script.specs.declared.draft.Draft.{Draft}
-use Rattle.s_script.specs.Drafts.{start, lines_at, is_last, in_place, has_room, is_declared, cause, semaphore_of, flag_of, queue_of, with_object, moved}
+use Rattle.s_script.specs.declared.owner.Owner.{Owner}
+use Rattle.s_script.specs.declared.owner.Owner.TheVariants as owners
+use Rattle.s_script.specs.Owners.{may_call, declaration_of}
+use Rattle.s_script.specs.Drafts.{start, lines_at, is_last, in_place, has_room, is_declared, cause, task_of, semaphore_of, flag_of, queue_of, cyclic_of, routine_of, with_object, opened, moved}
+use Rattle.s_script.proofs.Owned.{may_have, call_had, body_written}
 use Rattle.s_script.proofs.Added.{added}
 use Rattle.s_script.proofs.LineTakes.{is_written}
 
@@ -24,7 +29,7 @@ use Rattle.s_script.proofs.LineTakes.{is_written}
 
 -- the line passes each test
 pub record Passes (d : Draft) (l : ScriptLine) : Type 0 where
-  pub place : in_place d.stage (is_last d) l ≡ true
+  pub place : in_place d.stage (is_last d) d.owner l ≡ true
   pub range : is_in_range l ≡ true
   pub room : has_room d l ≡ true
   pub fresh : is_declared d l ≡ false
@@ -47,7 +52,7 @@ tests_pass false range room twice e = absurd cc
 -- a line with no cause passes
 pub passes : (d : Draft) (l : ScriptLine) → cause d l ≡ None → Passes d l
 passes d l e =
-    let tests = tests_pass (in_place d.stage (is_last d) l) (is_in_range l) (has_room d l) (is_declared d l) e in
+    let tests = tests_pass (in_place d.stage (is_last d) d.owner l) (is_in_range l) (has_room d l) (is_declared d l) e in
     record { place = tests.place_true; range = tests.range_true; room = tests.room_true; fresh = tests.twice_false }
 
 -- a line that passes has no cause
@@ -56,9 +61,9 @@ no_cause d l p = rw (p.place, p.range, p.room, p.fresh) refl
 
 -- ---- what is kept
 
--- what a stage keeps: the open task is new
+-- what a stage keeps: the owner of the open body is new
 abbrev pub AtStage : Stage → Draft → Type 0
-AtStage InTask d = list_any (is_task d.task.id) d.node.decls ≡ false
+AtStage InBody d = (body : Body) → is_repeated d.node.decls (declaration_of d.owner body) ≡ false
 AtStage _ d = Unit {0}
 
 -- node 0 is good where node 1 has begun, and has another address
@@ -71,7 +76,7 @@ pub record Kept (d : Draft) : Type 0 where
   pub ranges : list_all is_in_range (lines_at d.stage d) ≡ true
   pub before : IsAfter d.first d.node.addr
   pub good : AreGood d.node.decls
-  pub calls : list_all is_written_line d.body ≡ true
+  pub calls : list_all (may_have d.owner) d.body ≡ true
   pub short : length d.body ≤ 1000
   pub at_stage : AtStage d.stage d
 
@@ -94,14 +99,14 @@ distinct_push before (e ∷ ds) d all fresh =
 all_push : {X : Type 0} (test : X → Bool) (xs : List X) (x : X) → list_all test xs ≡ true → test x ≡ true → list_all test (xs ++ x ∷ []) ≡ true
 all_push test xs x all one = rw (list_all-append test xs (x ∷ []), all, one) refl
 
--- a call and the end of a body stand in a body
-call_stage : (stage : Stage) (last : Bool) (d : Draft) (request : Req) (fits : Bool) → in_place stage last (Call request fits) ≡ true → AtStage stage d → AtStage InTask d
-call_stage InTask last d request fits place at = at
+-- a call stands in a body that may have it
+call_stage : (stage : Stage) (last : Bool) (d : Draft) (request : Req) (fits : Bool) → in_place stage last d.owner (Call request fits) ≡ true → AtStage stage d → (may_call d.owner request ≡ true) × AtStage InBody d
+call_stage InBody last d request fits place at = (place, at)
 call_stage _ last d request fits place at = absurd (let none : false ≡ true = place in cc)
 
 -- the end of a body stands in a body
-end_stage : (stage : Stage) (last : Bool) (d : Draft) → in_place stage last End ≡ true → AtStage stage d → AtStage InTask d
-end_stage InTask last d place at = at
+end_stage : (stage : Stage) (last : Bool) (d : Draft) → in_place stage last d.owner End ≡ true → AtStage stage d → AtStage InBody d
+end_stage InBody last d place at = at
 end_stage _ last d place at = absurd (let none : false ≡ true = place in cc)
 
 -- one more line in its ranges
@@ -124,6 +129,16 @@ object_kept d declaration k ranges written fresh = record {
   at_stage = tt;
 }
 
+-- a body that opens keeps it all, where its owner is new
+opened_kept : (d : Draft) (o : Owner) → Kept d → list_all is_in_range (lines_at InBody (opened d o)) ≡ true → AtStage InBody (opened d o) → Kept (opened d o)
+opened_kept d o k ranges fresh = record { ranges = ranges; before = k.before; good = k.good; calls = refl; short = omega arith; at_stage = fresh }
+
+-- with a body that ends the declarations are good
+closed_good : (d : Draft) → Kept d → AtStage InBody d → AreGood (d.node.decls ++ declaration_of d.owner (record { lines = d.body }) ∷ [])
+closed_good d k fresh =
+    let body : Body = record { lines = d.body } in
+    good_push d.node.decls (declaration_of d.owner body) k.good (body_written d.owner body ∙ rw (le-leb (length d.body) 1000 k.short, k.calls) refl) (fresh body)
+
 -- a line that passes and can be written keeps it all
 pub kept : (d : Draft) (l : ScriptLine) → Kept d → Passes d l → is_written l ≡ true → Kept (moved d l)
 kept d Itron k p w = record { ranges = more_ranges d Itron k p; before = k.before; good = k.good; calls = k.calls; short = k.short; at_stage = tt }
@@ -141,26 +156,23 @@ kept d (SecondNode n) k p w = record {
 kept d (Sem id pri init max) k p w = object_kept d (declarations.Sem (semaphore_of id pri init max)) k (more_ranges d (Sem id pri init max) k p) refl p.fresh
 kept d (Flg id pri many clr init) k p w = object_kept d (declarations.Flg (flag_of id pri many clr init)) k (more_ranges d (Flg id pri many clr init) k p) refl p.fresh
 kept d (Dtq id pri cap) k p w = object_kept d (declarations.Dtq (queue_of id pri cap)) k (more_ranges d (Dtq id pri cap) k p) refl p.fresh
-kept d (Task id pri act) k p w = record {
-  ranges = more_ranges d (Task id pri act) k p;
-  before = k.before;
-  good = k.good;
-  calls = refl;
-  short = omega arith;
-  at_stage = p.fresh;
-}
-kept d (Call request fits) k p w = record {
-  ranges = more_ranges d (Call request fits) k p;
-  before = k.before;
-  good = k.good;
-  calls = all_push is_written_line d.body _ k.calls w;
-  short = omega (arith, ltb-true (length d.body) 1000 p.room, length_push d.body (body_lines.Call request));
-  at_stage = call_stage d.stage (is_last d) d request fits p.place k.at_stage;
-}
+kept d (Task id pri act) k p w = opened_kept d (owners.Task (task_of id pri act)) k (more_ranges d (Task id pri act) k p) (λ body. p.fresh)
+kept d (Cyc id period phase on) k p w = opened_kept d (owners.Cyc (cyclic_of id period phase on)) k (more_ranges d (Cyc id period phase on) k p) (λ body. p.fresh)
+kept d (Cbr id) k p w = opened_kept d (owners.Cbr (routine_of id)) k (more_ranges d (Cbr id) k p) (λ body. p.fresh)
+kept d (Call request fits) k p w =
+    let at = call_stage d.stage (is_last d) d request fits p.place k.at_stage in
+    record {
+      ranges = more_ranges d (Call request fits) k p;
+      before = k.before;
+      good = k.good;
+      calls = all_push (may_have d.owner) d.body (body_lines.Call request) k.calls (call_had d.owner request w at.0);
+      short = omega (arith, ltb-true (length d.body) 1000 p.room, length_push d.body (body_lines.Call request));
+      at_stage = at.1;
+    }
 kept d End k p w = record {
   ranges = more_ranges d End k p;
   before = k.before;
-  good = good_push d.node.decls _ k.good (rw (le-leb (length d.body) 1000 k.short, k.calls) refl) (end_stage d.stage (is_last d) d p.place k.at_stage);
+  good = closed_good d k (end_stage d.stage (is_last d) d p.place k.at_stage);
   calls = refl;
   short = omega arith;
   at_stage = tt;

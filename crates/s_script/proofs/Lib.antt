@@ -5,6 +5,7 @@ pub mod EachTakes
 pub mod LineAgain
 pub mod EachAgain
 pub mod ReadLoop
+pub mod Owned
 pub mod Added
 pub mod Kept
 pub mod Led

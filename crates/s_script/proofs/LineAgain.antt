@@ -2,14 +2,14 @@
 use Rattle.std.proofs.Common.{◌≡◌, ℕ, ◌≤◌, Bool, true, false, leb, [], ◌++◌, Option, Some, None, codes, refl, arith}
 use Rattle.std.specs.Fmt.{decimal}
 use Rattle.std.proofs.lemmas.Bool.{and_parts, leb-true}
-use Rattle.spec_script.specs.declared.script_line.ScriptLine.TheVariants.{Itron, Link, Ticks, FirstNode, SecondNode, Sem, Flg, Dtq, Task, End}
+use Rattle.spec_script.specs.declared.script_line.ScriptLine.TheVariants.{Itron, Link, Ticks, FirstNode, SecondNode, Sem, Flg, Dtq, Task, Cyc, Cbr, End}
 use Rattle.spec_script.specs.declared.script_line.NodeLine.{NodeLine}
-use Rattle.spec_script.specs.Lines.{order_text, waiters_text, clearing_text, start_text, field, node_text, line_text}
+use Rattle.spec_script.specs.Lines.{order_text, waiters_text, clearing_text, start_text, running_text, field, node_text, line_text}
 use Rattle.spec_script.specs.Ranges.{within, is_at_most, is_node_in_range, is_in_range}
 use Rattle.it_types.specs.Cursor.{and_then, after}
-use Rattle.s_script.specs.LineKinds.{itron_line, link_line, ticks_line, node_at, first_node_line, second_node_line, either_node_line, sem_line, flg_line, dtq_line, task_line, line_of}
+use Rattle.s_script.specs.LineKinds.{itron_line, link_line, ticks_line, node_at, first_node_line, second_node_line, either_node_line, sem_line, flg_line, dtq_line, task_line, cyc_line, cbr_line, line_of}
 use Rattle.it_types.proofs.Numerals.{number_again, number_last, address_again}
-use Rattle.s_script.proofs.LineFields.{number_field_again, number_field_last, order_again, waiters_again, clearing_again, start_again}
+use Rattle.s_script.proofs.LineFields.{number_field_again, number_field_last, order_again, waiters_again, clearing_again, start_again, running_again}
 
 -- ---- numbers in their ranges
 
@@ -147,6 +147,33 @@ task_again id pri act range =
     in_bounds 1 id 16 bounds.0 λ i e x.
     in_bounds 1 pri 16 bounds.1 λ p f y.
     rw (e, f) (task_of_numbers i p act x y)
+
+-- cyc ID PERIOD PHASE on, of numbers
+cyc_of_numbers : (id period phase : ℕ) (on : Bool) → id ≤ 8 → period ≤ 1000000 → phase ≤ 1000000
+    → line_of (line_text (Cyc (Some id) (Some period) (Some phase) on)) ≡ Some (Cyc (Some id) (Some period) (Some phase) on)
+unfolding line_of cyc_line and_then
+cyc_of_numbers id period phase on i p q =
+    rw (
+      number_field_again id (field (decimal period) ++ (field (decimal phase) ++ field (running_text on))) (omega arith) refl,
+      number_field_again period (field (decimal phase) ++ field (running_text on)) (omega arith) refl,
+      number_field_again phase (field (running_text on)) (omega arith) refl,
+      running_again on,
+    ) refl
+
+-- the same of numbers that are there
+pub cyc_again : (id period phase : Option ℕ) (on : Bool) → is_in_range (Cyc id period phase on) ≡ true → line_of (line_text (Cyc id period phase on)) ≡ Some (Cyc id period phase on)
+cyc_again id period phase on range =
+    let bounds = and_parts (within 1 id 8) _ range in
+    let times = and_parts (within 1 period 1000000) (within 0 phase 1000000) bounds.1 in
+    in_bounds 1 id 8 bounds.0 λ i e x.
+    in_bounds 1 period 1000000 times.0 λ p f y.
+    in_bounds 0 phase 1000000 times.1 λ q g z.
+    rw (e, f, g) (cyc_of_numbers i p q on x y z)
+
+-- cbr ID
+pub cbr_again : (id : Option ℕ) → is_in_range (Cbr id) ≡ true → line_of (line_text (Cbr id)) ≡ Some (Cbr id)
+unfolding line_of cbr_line and_then
+cbr_again id range = in_bounds 1 id 16 range λ i e high. rw (e, number_field_last i (omega arith)) refl
 
 -- itron 1
 pub itron_again : line_of (line_text Itron) ≡ Some Itron

@@ -6,8 +6,8 @@ use Rattle.it_types.specs.Cursor.{and_then, or_else, after}
 use Rattle.it_types.proofs.ReadSteps.{read_step, found_is, after_takes}
 use Rattle.it_types.proofs.Fronts.{stops}
 use Rattle.it_types.proofs.Numerals.{number_takes, number_again, number_last}
-use Rattle.spec_script.specs.Lines.{number_text, choice_text, order_text, waiters_text, clearing_text, start_text, field}
-use Rattle.s_script.specs.LineKinds.{number_field, chosen, choice_at, choice_field, order_field, waiters_field, clearing_field, start_field}
+use Rattle.spec_script.specs.Lines.{number_text, choice_text, order_text, waiters_text, clearing_text, start_text, running_text, field}
+use Rattle.s_script.specs.LineKinds.{number_field, chosen, choice_at, choice_field, order_field, waiters_field, clearing_field, start_field, running_field}
 
 -- what the first or else the second reads
 pub either : {A P : Type 0} (first second : Option A) (y : A) → or_else first second ≡ Some y → (first ≡ Some y → P) → (second ≡ Some y → P) → P
@@ -81,3 +81,8 @@ pub start_again : (act : Bool) → start_field (field (start_text act)) ≡ Some
 unfolding choice_field choice_at and_then after
 start_again true = refl
 start_again false = refl
+
+pub running_again : (on : Bool) → running_field (field (running_text on)) ≡ Some (on, [])
+unfolding choice_field choice_at and_then after
+running_again true = refl
+running_again false = refl

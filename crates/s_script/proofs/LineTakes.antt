@@ -3,12 +3,12 @@ use Rattle.std.proofs.Common.{◌≡◌, ℕ, Bool, true, false, List, [], ◌++
 use Rattle.std.proofs.lemmas.Bool.{and_parts}
 use Rattle.std.proofs.lemmas.List.{append-nil}
 use Rattle.spec_script.specs.declared.script_line.ScriptLine.{ScriptLine}
-use Rattle.spec_script.specs.declared.script_line.ScriptLine.TheVariants.{Itron, Link, Ticks, FirstNode, SecondNode, Sem, Flg, Dtq, Task, Call, End}
+use Rattle.spec_script.specs.declared.script_line.ScriptLine.TheVariants.{Itron, Link, Ticks, FirstNode, SecondNode, Sem, Flg, Dtq, Task, Cyc, Cbr, Call, End}
 use Rattle.spec_script.specs.declared.script_line.NodeLine.{NodeLine}
-use Rattle.spec_script.specs.Lines.{line_text, number_text, start_text, node_text}
+use Rattle.spec_script.specs.Lines.{line_text, number_text, start_text, running_text, node_text}
 use Rattle.spec_script.specs.Ranges.{within, is_at_most, is_node_in_range, is_in_range, is_written_call}
 use Rattle.it_types.specs.Cursor.{at_end}
-use Rattle.s_script.specs.LineKinds.{itron_line, link_line, ticks_line, node_at, first_node_line, second_node_line, either_node_line, sem_line, flg_line, dtq_line, task_line, end_line}
+use Rattle.s_script.specs.LineKinds.{itron_line, link_line, ticks_line, node_at, first_node_line, second_node_line, either_node_line, sem_line, flg_line, dtq_line, task_line, cyc_line, cbr_line, end_line}
 use Rattle.it_types.proofs.ReadSteps.{read_step, found_is, at_end_is, after_takes}
 use Rattle.it_types.proofs.Numerals.{number_takes, address_takes}
 use Rattle.s_script.proofs.LineFields.{either, number_field_takes, choice_field_takes, order_takes}
@@ -190,6 +190,36 @@ task_takes bytes l e =
             ) refl,
             refl,
           );
+    })
+
+-- cyc ID PERIOD PHASE on
+pub cyc_takes : (bytes : List ℕ) (l : ScriptLine) → cyc_line bytes ≡ Some l → Takes (codes "cyc" ++ bytes) l
+unfolding cyc_line
+cyc_takes bytes l e =
+    read_step e λ id p e1. read_step e1 λ period q e2. read_step e2 λ phase r e3. read_step e3 λ on s e4.
+    at_end_takes (codes "cyc" ++ bytes) on.1 (Cyc id.0 period.0 phase.0 on.0) l e4 (λ nil. record {
+      fact = λ range.
+          let bounds = and_parts (within 1 id.0 8) _ range in
+          let times = and_parts (within 1 period.0 1000000) (within 0 phase.0 1000000) bounds.1 in (
+            rw (
+              number_field_takes bytes id p (within_some _ id.0 _ bounds.0),
+              number_field_takes id.1 period q (within_some _ period.0 _ times.0),
+              number_field_takes period.1 phase r (within_some _ phase.0 _ times.1),
+              choice_field_takes (codes "on") (codes "off") phase.1 on s,
+              nil,
+              append-nil (running_text on.0),
+            ) refl,
+            refl,
+          );
+    })
+
+-- cbr ID
+pub cbr_takes : (bytes : List ℕ) (l : ScriptLine) → cbr_line bytes ≡ Some l → Takes (codes "cbr" ++ bytes) l
+unfolding cbr_line
+cbr_takes bytes l e =
+    read_step e λ id p e1.
+    at_end_takes (codes "cbr" ++ bytes) id.1 (Cbr id.0) l e1 (λ nil. record {
+      fact = λ range. (rw (number_field_takes bytes id p (within_some _ id.0 _ range), nil, append-nil (number_text id.0)) refl, refl);
     })
 
 -- end

@@ -26,8 +26,8 @@ use Rattle.it_types.specs.Lines.{call_word, call_fields_text, call_is_in_range, 
 use Rattle.it_types.proofs.Finding.{found_passes}
 use Rattle.it_types.proofs.LineLaws.{row}
 use Rattle.spec_script.specs.declared.script_line.ScriptLine.{ScriptLine}
-use Rattle.spec_script.specs.declared.script_line.ScriptLine.TheVariants.{Itron, Link, Ticks, FirstNode, SecondNode, Sem, Flg, Dtq, Task, Call, End}
-use Rattle.spec_script.specs.Lines.{choice_text, order_text, waiters_text, clearing_text, start_text, field, node_text, line_text, ended}
+use Rattle.spec_script.specs.declared.script_line.ScriptLine.TheVariants.{Itron, Link, Ticks, FirstNode, SecondNode, Sem, Flg, Dtq, Task, Cyc, Cbr, Call, End}
+use Rattle.spec_script.specs.Lines.{choice_text, order_text, waiters_text, clearing_text, start_text, running_text, field, node_text, line_text, ended}
 use Rattle.spec_script.specs.Ranges.{within, is_at_most, is_node_in_range, is_in_range, data_limit, is_written_call}
 use Rattle.spec_script.specs.Today.{may_write}
 use Rattle.spec_script.specs.Text.{onto_first, split_lines}
@@ -157,6 +157,11 @@ start_plain : (act : Bool) → is_plain (start_text act) ≡ true
 start_plain true = refl
 start_plain false = refl
 
+-- whether a cyclic handler runs
+running_plain : (on : Bool) → is_plain (running_text on) ≡ true
+running_plain true = refl
+running_plain false = refl
+
 -- sem ID fifo INIT MAX
 sem_plain : (id : Option ℕ) (pri : Bool) (init max : Option ℕ) → is_in_range (Sem id pri init max) ≡ true → is_plain (line_text (Sem id pri init max)) ≡ true
 sem_plain id pri init max range =
@@ -195,6 +200,22 @@ task_plain id pri act range =
     in_bounds 1 id 16 bounds.0 λ i e x.
     in_bounds 1 pri 16 bounds.1 λ p f y.
     rw (e, f) (then_plain i (field (decimal p) ++ field (start_text act)) (omega arith) (then_plain p (field (start_text act)) (omega arith) (start_plain act)))
+
+-- cyc ID PERIOD PHASE on
+cyc_plain : (id period phase : Option ℕ) (on : Bool) → is_in_range (Cyc id period phase on) ≡ true → is_plain (line_text (Cyc id period phase on)) ≡ true
+cyc_plain id period phase on range =
+    let bounds = and_parts (within 1 id 8) _ range in
+    let times = and_parts (within 1 period 1000000) (within 0 phase 1000000) bounds.1 in
+    in_bounds 1 id 8 bounds.0 λ i e x.
+    in_bounds 1 period 1000000 times.0 λ p f y.
+    in_bounds 0 phase 1000000 times.1 λ q g z.
+    rw (e, f, g) (then_plain i (field (decimal p) ++ (field (decimal q) ++ field (running_text on))) (omega arith)
+    (then_plain p (field (decimal q) ++ field (running_text on)) (omega arith)
+    (then_plain q (field (running_text on)) (omega arith) (running_plain on))))
+
+-- cbr ID
+cbr_plain : (id : Option ℕ) → is_in_range (Cbr id) ≡ true → is_plain (line_text (Cbr id)) ≡ true
+cbr_plain id range = in_bounds 1 id 16 range λ i e high. rw e (number_plain i (omega arith))
 
 -- ---- a call, by the kinds of its fields
 
@@ -281,5 +302,7 @@ line_plain (Sem id pri init max) range written = sem_plain id pri init max range
 line_plain (Flg id pri many clr init) range written = flg_plain id pri many clr init range
 line_plain (Dtq id pri cap) range written = dtq_plain id pri cap range
 line_plain (Task id pri act) range written = task_plain id pri act range
+line_plain (Cyc id period phase on) range written = cyc_plain id period phase on range
+line_plain (Cbr id) range written = cbr_plain id range
 line_plain (Call request fits) range written = call_plain request written
 line_plain End range written = refl

@@ -1,11 +1,10 @@
 -- The lines of a good script are taken one after the other, and make that script.
-use Rattle.std.proofs.Common.{◌≡◌, ℕ, ◌+◌, ◌≤◌, true, false, not, eqb, ltb, leb, List, [], ◌∷◌, ◌++◌, length, map, Option, Some, None, refl, sym, ◌∙◌, subst, append_assoc, arith}
+use Rattle.std.proofs.Common.{◌≡◌, ℕ, ◌+◌, ◌≤◌, true, false, not, eqb, ltb, leb, List, [], ◌∷◌, ◌++◌, length, map, Option, Some, None, refl, sym, ap, ◌∙◌, subst, append_assoc, arith}
 use Rattle.std.specs.Prelude.{slice_index_or}
 use Rattle.std.specs.List.{list_all, flat_map}
 use Rattle.std.proofs.lemmas.Bool.{and_parts, not-true, ne_eqb, leb-true, lt-ltb}
 use Rattle.std.proofs.lemmas.List.{append-nil, length_push}
 use Rattle.std.proofs.lemmas.List.Folds.{list_all-append}
-use Rattle.it_types.specs.declared.conf.TaskDecl.{TaskDecl}
 use Rattle.spec_script.specs.declared.script.Script.{Script}
 use Rattle.spec_script.specs.declared.script.NodeDecl.{NodeDecl}
 use Rattle.spec_script.specs.declared.decl.Decl.{Decl}
@@ -14,13 +13,17 @@ use Rattle.spec_script.specs.declared.decl.Body.{Body}
 use Rattle.spec_script.specs.declared.decl.Line.{Line}
 use Rattle.spec_script.specs.declared.decl.Line.TheVariants as body_lines
 use Rattle.spec_script.specs.declared.script_line.ScriptLine.{ScriptLine}
-use Rattle.spec_script.specs.declared.script_line.ScriptLine.TheVariants.{Link, Ticks, FirstNode, SecondNode, Sem, Flg, Dtq, Task, End}
-use Rattle.spec_script.specs.Lines.{no_node, first_node, second_node, key_of, node_line, body_line, declaration_lines, lines_of}
-use Rattle.spec_script.specs.Ranges.{is_in_range, is_repeated, is_written_call, is_written_line, is_written_declaration, are_distinct, IsGood}
-use Rattle.s_script.specs.declared.draft.Stage.TheVariants.{Declares, InTask}
+use Rattle.spec_script.specs.declared.script_line.ScriptLine.TheVariants.{Link, Ticks, FirstNode, SecondNode, Sem, Flg, Dtq, End}
+use Rattle.spec_script.specs.Lines.{no_node, first_node, second_node, key_of, node_line, body_line, with_body, declaration_lines, lines_of}
+use Rattle.spec_script.specs.Ranges.{is_in_range, is_repeated, is_written_declaration, are_distinct, IsGood}
+use Rattle.s_script.specs.declared.draft.Stage.TheVariants.{Declares, InBody}
 use Rattle.s_script.specs.declared.draft.Draft.{Draft}
-use Rattle.s_script.specs.Drafts.{no_task, start, script_of, is_last, moved}
+use Rattle.s_script.specs.declared.owner.Owner.{Owner}
+use Rattle.s_script.specs.declared.owner.Owner.TheVariants as owners
+use Rattle.s_script.specs.Owners.{opening, declaration_of}
+use Rattle.s_script.specs.Drafts.{no_owner, start, script_of, is_last, moved}
 use Rattle.s_script.specs.Reading.{is_whole}
+use Rattle.s_script.proofs.Owned.{may_have, call_parts, body_written, lines_owned}
 use Rattle.s_script.proofs.Kept.{Passes}
 use Rattle.s_script.proofs.LineTakes.{is_written}
 
@@ -31,29 +34,30 @@ Runs P d (l ∷ ls) = Passes d l × (is_written l ≡ true) × Runs P (moved d l
 
 -- ---- a body
 
--- a draft with an open task
-abbrev in_task : ℕ → ℕ → Option NodeDecl → NodeDecl → TaskDecl → List Line → Draft
-in_task key ticks first n task body = record { stage = InTask; key = key; ticks = ticks; first = first; node = n; task = task; body = body }
+-- a draft with an open body
+abbrev in_body : ℕ → ℕ → Option NodeDecl → NodeDecl → Owner → List Line → Draft
+in_body key ticks first n owner body = record { stage = InBody; key = key; ticks = ticks; first = first; node = n; owner = owner; body = body }
 
 -- a body's calls are taken one after the other
-body_runs : (P : Draft → Type 0) (lines : List Line) (key ticks : ℕ) (first : Option NodeDecl) (n : NodeDecl) (task : TaskDecl) (before : List Line) (more : List ScriptLine)
-    → list_all is_written_line lines ≡ true → length before + length lines ≤ 1000
-    → Runs P (in_task key ticks first n task (before ++ lines)) more → Runs P (in_task key ticks first n task before) (map body_line lines ++ more)
-body_runs P [] key ticks first n task before more written short h = subst (λ (body : List Line). Runs P (in_task key ticks first n task body) more) (append-nil before) h
-body_runs P (body_lines.Call request ∷ lines) key ticks first n task before more written short h =
-    let parts = and_parts (is_written_call request) (list_all is_written_line lines) written in
+body_runs : (P : Draft → Type 0) (lines : List Line) (key ticks : ℕ) (first : Option NodeDecl) (n : NodeDecl) (owner : Owner) (before : List Line) (more : List ScriptLine)
+    → list_all (may_have owner) lines ≡ true → length before + length lines ≤ 1000
+    → Runs P (in_body key ticks first n owner (before ++ lines)) more → Runs P (in_body key ticks first n owner before) (map body_line lines ++ more)
+body_runs P [] key ticks first n owner before more has short h = subst (λ (body : List Line). Runs P (in_body key ticks first n owner body) more) (append-nil before) h
+body_runs P (body_lines.Call request ∷ lines) key ticks first n owner before more has short h =
+    let parts = and_parts (may_have owner (body_lines.Call request)) (list_all (may_have owner) lines) has in
+    let call = call_parts owner request parts.0 in
     let room : ltb (length before) 1000 ≡ true = lt-ltb (length before) 1000 (omega arith) in
     let regrouped : before ++ (body_lines.Call request ∷ lines) ≡ (before ++ (body_lines.Call request ∷ [])) ++ lines = sym (append_assoc before (body_lines.Call request ∷ []) lines) in (
-      record { place = refl; range = refl; room = room; fresh = refl },
-      parts.0,
-      body_runs P lines key ticks first n task (before ++ (body_lines.Call request ∷ [])) more parts.1 (omega (arith, length_push before (body_lines.Call request))) (subst (λ (body : List Line). Runs P (in_task key ticks first n task body) more) regrouped h),
+      record { place = call.1; range = refl; room = room; fresh = refl },
+      call.0,
+      body_runs P lines key ticks first n owner (before ++ (body_lines.Call request ∷ [])) more parts.1 (omega (arith, length_push before (body_lines.Call request))) (subst (λ (body : List Line). Runs P (in_body key ticks first n owner body) more) regrouped h),
     )
 
 -- ---- declarations
 
 -- a draft between declarations
-abbrev between : ℕ → ℕ → Option NodeDecl → NodeDecl → List Decl → TaskDecl → Draft
-between key ticks first n before task = record { stage = Declares; key = key; ticks = ticks; first = first; node = record n { decls = before }; task = task; body = [] }
+abbrev between : ℕ → ℕ → Option NodeDecl → NodeDecl → List Decl → Owner → Draft
+between key ticks first n before owner = record { stage = Declares; key = key; ticks = ticks; first = first; node = record n { decls = before }; owner = owner; body = [] }
 
 -- what declarations after others keep
 record GoodAfter (before ds : List Decl) : Type 0 where
@@ -76,53 +80,79 @@ first_good before d ds g =
     let distinct = and_parts (not (is_repeated before d)) (are_distinct (before ++ (d ∷ [])) ds) g.distinct in
     record { ranges = ranges.0; written = written.0; fresh = not-true (is_repeated before d) distinct.0; others = record { ranges = ranges.1; written = written.1; distinct = distinct.1 } }
 
--- a task's declaration is taken
-task_runs : (P : Draft → Type 0) (key ticks : ℕ) (first : Option NodeDecl) (n : NodeDecl) (before : List Decl) (open_task task : TaskDecl) (body : Body) (ds : List Decl) (more : List ScriptLine)
-    → FirstGood before (declarations.Task task body) ds → ((t : TaskDecl) → Runs P (between key ticks first n (before ++ (declarations.Task task body ∷ [])) t) more)
-    → Runs P (between key ticks first n before open_task) (declaration_lines (declarations.Task task body) ++ more)
-task_runs P key ticks first n before open_task task body ds more g h =
-    let range = and_parts (is_in_range (Task (Some task.id) (Some task.pri) task.act)) (list_all is_in_range (map body_line body.lines ++ (End ∷ []))) g.ranges in
-    let calls = and_parts (leb (length body.lines) 1000) (list_all is_written_line body.lines) g.written in
+-- a body opens where its owner is new
+opens : (P : Draft → Type 0) (o prior : Owner) (key ticks : ℕ) (first : Option NodeDecl) (n : NodeDecl) (before : List Decl) (ls : List ScriptLine)
+    → is_in_range (opening o) ≡ true → ((body : Body) → is_repeated before (declaration_of o body) ≡ false) → Runs P (in_body key ticks first (record n { decls = before }) o []) ls
+    → Runs P (between key ticks first n before prior) (opening o ∷ ls)
+opens P (owners.Task task) prior key ticks first n before ls range fresh h = (record { place = refl; range = range; room = refl; fresh = fresh (record { lines = [] }) }, refl, h)
+opens P (owners.Cyc cyc) prior key ticks first n before ls range fresh h = (record { place = refl; range = range; room = refl; fresh = fresh (record { lines = [] }) }, refl, h)
+opens P (owners.Cbr cbr) prior key ticks first n before ls range fresh h = (record { place = refl; range = range; room = refl; fresh = fresh (record { lines = [] }) }, refl, h)
+
+-- where one body makes a declaration no repetition, each does
+any_fresh : (o : Owner) (before : List Decl) (own : Body) → is_repeated before (declaration_of o own) ≡ false → (body : Body) → is_repeated before (declaration_of o body) ≡ false
+any_fresh (owners.Task task) before own fresh body = fresh
+any_fresh (owners.Cyc cyc) before own fresh body = fresh
+any_fresh (owners.Cbr cbr) before own fresh body = fresh
+
+-- a declaration with a body is taken
+owner_runs : (P : Draft → Type 0) (key ticks : ℕ) (first : Option NodeDecl) (n : NodeDecl) (before : List Decl) (prior o : Owner) (body : Body) (ds : List Decl) (more : List ScriptLine)
+    → FirstGood before (declaration_of o body) ds → ((u : Owner) → Runs P (between key ticks first n (before ++ (declaration_of o body ∷ [])) u) more)
+    → Runs P (between key ticks first n before prior) (with_body (opening o) body ++ more)
+owner_runs P key ticks first n before prior o body ds more g h =
+    let ranges : list_all is_in_range (with_body (opening o) body) ≡ true = subst (λ (ls : List ScriptLine). list_all is_in_range ls ≡ true) (lines_owned o body) g.ranges in
+    let range = and_parts (is_in_range (opening o)) (list_all is_in_range (map body_line body.lines ++ (End ∷ []))) ranges in
+    let calls = and_parts (leb (length body.lines) 1000) (list_all (may_have o) body.lines) (sym (body_written o body) ∙ g.written) in
     let short : 0 + length body.lines ≤ 1000 = omega (arith, leb-true (length body.lines) 1000 calls.0) in
-    let ended : Runs P (in_task key ticks first (record n { decls = before }) task body.lines) (End ∷ more) = (record { place = refl; range = refl; room = refl; fresh = refl }, refl, h task) in (
-      record { place = refl; range = range.0; room = refl; fresh = g.fresh },
-      refl,
-      subst (λ (ls : List ScriptLine). Runs P (in_task key ticks first (record n { decls = before }) task []) ls) (sym (append_assoc (map body_line body.lines) (End ∷ []) more))
-          (body_runs P body.lines key ticks first (record n { decls = before }) task [] (End ∷ more) calls.1 short ended),
-    )
+    let ended : Runs P (in_body key ticks first (record n { decls = before }) o body.lines) (End ∷ more) = (record { place = refl; range = refl; room = refl; fresh = refl }, refl, h o) in
+    opens P o prior key ticks first n before ((map body_line body.lines ++ (End ∷ [])) ++ more) range.0 (any_fresh o before body g.fresh)
+    (subst (λ (ls : List ScriptLine). Runs P (in_body key ticks first (record n { decls = before }) o []) ls) (sym (append_assoc (map body_line body.lines) (End ∷ []) more))
+    (body_runs P body.lines key ticks first (record n { decls = before }) o [] (End ∷ more) calls.1 short ended))
+
+-- a declaration with a body is taken, and then the others
+owned_run : (P : Draft → Type 0) (key ticks : ℕ) (first : Option NodeDecl) (n : NodeDecl) (before : List Decl) (o prior : Owner) (body : Body) (ds : List Decl) (more : List ScriptLine)
+    → GoodAfter before (declaration_of o body ∷ ds)
+    → ((u : Owner) → Runs P (between key ticks first n (before ++ (declaration_of o body ∷ ds)) u) more)
+    → ((u : Owner) → GoodAfter (before ++ (declaration_of o body ∷ [])) ds → ((v : Owner) → Runs P (between key ticks first n ((before ++ (declaration_of o body ∷ [])) ++ ds) v) more) → Runs P (between key ticks first n (before ++ (declaration_of o body ∷ [])) u) (flat_map declaration_lines ds ++ more))
+    → Runs P (between key ticks first n before prior) ((declaration_lines (declaration_of o body) ++ flat_map declaration_lines ds) ++ more)
+owned_run P key ticks first n before o prior body ds more g h others =
+    let f = first_good before (declaration_of o body) ds g in
+    let later = flat_map declaration_lines ds in
+    let regrouped : before ++ (declaration_of o body ∷ ds) ≡ (before ++ (declaration_of o body ∷ [])) ++ ds = sym (append_assoc before (declaration_of o body ∷ []) ds) in
+    let lines : (declaration_lines (declaration_of o body) ++ later) ++ more ≡ with_body (opening o) body ++ (later ++ more) = ap (λ (ls : List ScriptLine). (ls ++ later) ++ more) (lines_owned o body) ∙ append_assoc (with_body (opening o) body) later more in
+    subst (λ (ls : List ScriptLine). Runs P (between key ticks first n before prior) ls) (sym lines)
+    (owner_runs P key ticks first n before prior o body ds (later ++ more) f (λ u. others u f.others (λ v. subst (λ (x : List Decl). Runs P (between key ticks first n x v) more) regrouped (h v))))
 
 -- declarations are taken one after the other
-declarations_run : (P : Draft → Type 0) (ds : List Decl) (key ticks : ℕ) (first : Option NodeDecl) (n : NodeDecl) (before : List Decl) (task : TaskDecl) (more : List ScriptLine)
-    → GoodAfter before ds → ((t : TaskDecl) → Runs P (between key ticks first n (before ++ ds) t) more) → Runs P (between key ticks first n before task) (flat_map declaration_lines ds ++ more)
-declarations_run P [] key ticks first n before task more g h = subst (λ (x : List Decl). Runs P (between key ticks first n x task) more) (append-nil before) (h task)
-declarations_run P (declarations.Sem sem ∷ ds) key ticks first n before task more g h =
+declarations_run : (P : Draft → Type 0) (ds : List Decl) (key ticks : ℕ) (first : Option NodeDecl) (n : NodeDecl) (before : List Decl) (prior : Owner) (more : List ScriptLine)
+    → GoodAfter before ds → ((u : Owner) → Runs P (between key ticks first n (before ++ ds) u) more) → Runs P (between key ticks first n before prior) (flat_map declaration_lines ds ++ more)
+declarations_run P [] key ticks first n before prior more g h = subst (λ (x : List Decl). Runs P (between key ticks first n x prior) more) (append-nil before) (h prior)
+declarations_run P (declarations.Sem sem ∷ ds) key ticks first n before prior more g h =
     let f = first_good before (declarations.Sem sem) ds g in
     let regrouped : before ++ (declarations.Sem sem ∷ ds) ≡ (before ++ (declarations.Sem sem ∷ [])) ++ ds = sym (append_assoc before (declarations.Sem sem ∷ []) ds) in (
       record { place = refl; range = (and_parts (is_in_range (Sem (Some sem.id) sem.pri (Some sem.init) (Some sem.max))) true f.ranges).0; room = refl; fresh = f.fresh },
       refl,
-      declarations_run P ds key ticks first n (before ++ (declarations.Sem sem ∷ [])) task more f.others (λ t. subst (λ (x : List Decl). Runs P (between key ticks first n x t) more) regrouped (h t)),
+      declarations_run P ds key ticks first n (before ++ (declarations.Sem sem ∷ [])) prior more f.others (λ u. subst (λ (x : List Decl). Runs P (between key ticks first n x u) more) regrouped (h u)),
     )
-declarations_run P (declarations.Flg flag ∷ ds) key ticks first n before task more g h =
+declarations_run P (declarations.Flg flag ∷ ds) key ticks first n before prior more g h =
     let f = first_good before (declarations.Flg flag) ds g in
     let regrouped : before ++ (declarations.Flg flag ∷ ds) ≡ (before ++ (declarations.Flg flag ∷ [])) ++ ds = sym (append_assoc before (declarations.Flg flag ∷ []) ds) in (
       record { place = refl; range = (and_parts (is_in_range (Flg (Some flag.id) flag.pri flag.many flag.clr (Some flag.init))) true f.ranges).0; room = refl; fresh = f.fresh },
       refl,
-      declarations_run P ds key ticks first n (before ++ (declarations.Flg flag ∷ [])) task more f.others (λ t. subst (λ (x : List Decl). Runs P (between key ticks first n x t) more) regrouped (h t)),
+      declarations_run P ds key ticks first n (before ++ (declarations.Flg flag ∷ [])) prior more f.others (λ u. subst (λ (x : List Decl). Runs P (between key ticks first n x u) more) regrouped (h u)),
     )
-declarations_run P (declarations.Dtq queue ∷ ds) key ticks first n before task more g h =
+declarations_run P (declarations.Dtq queue ∷ ds) key ticks first n before prior more g h =
     let f = first_good before (declarations.Dtq queue) ds g in
     let regrouped : before ++ (declarations.Dtq queue ∷ ds) ≡ (before ++ (declarations.Dtq queue ∷ [])) ++ ds = sym (append_assoc before (declarations.Dtq queue ∷ []) ds) in (
       record { place = refl; range = (and_parts (is_in_range (Dtq (Some queue.id) queue.pri (Some queue.cap))) true f.ranges).0; room = refl; fresh = f.fresh },
       refl,
-      declarations_run P ds key ticks first n (before ++ (declarations.Dtq queue ∷ [])) task more f.others (λ t. subst (λ (x : List Decl). Runs P (between key ticks first n x t) more) regrouped (h t)),
+      declarations_run P ds key ticks first n (before ++ (declarations.Dtq queue ∷ [])) prior more f.others (λ u. subst (λ (x : List Decl). Runs P (between key ticks first n x u) more) regrouped (h u)),
     )
-declarations_run P (declarations.Task own body ∷ ds) key ticks first n before task more g h =
-    let f = first_good before (declarations.Task own body) ds g in
-    let regrouped : before ++ (declarations.Task own body ∷ ds) ≡ (before ++ (declarations.Task own body ∷ [])) ++ ds = sym (append_assoc before (declarations.Task own body ∷ []) ds) in
-    let lines : (declaration_lines (declarations.Task own body) ++ flat_map declaration_lines ds) ++ more ≡ declaration_lines (declarations.Task own body) ++ (flat_map declaration_lines ds ++ more) = append_assoc (declaration_lines (declarations.Task own body)) (flat_map declaration_lines ds) more in
-    subst (λ (ls : List ScriptLine). Runs P (between key ticks first n before task) ls) (sym lines)
-    (task_runs P key ticks first n before task own body ds (flat_map declaration_lines ds ++ more) f
-    (λ t. declarations_run P ds key ticks first n (before ++ (declarations.Task own body ∷ [])) t more f.others (λ u. subst (λ (x : List Decl). Runs P (between key ticks first n x u) more) regrouped (h u))))
+declarations_run P (declarations.Task task body ∷ ds) key ticks first n before prior more g h =
+    owned_run P key ticks first n before (owners.Task task) prior body ds more g h (λ u later next. declarations_run P ds key ticks first n (before ++ (declarations.Task task body ∷ [])) u more later next)
+declarations_run P (declarations.Cyc cyc body ∷ ds) key ticks first n before prior more g h =
+    owned_run P key ticks first n before (owners.Cyc cyc) prior body ds more g h (λ u later next. declarations_run P ds key ticks first n (before ++ (declarations.Cyc cyc body ∷ [])) u more later next)
+declarations_run P (declarations.Cbr cbr body ∷ ds) key ticks first n before prior more g h =
+    owned_run P key ticks first n before (owners.Cbr cbr) prior body ds more g h (λ u later next. declarations_run P ds key ticks first n (before ++ (declarations.Cbr cbr body ∷ [])) u more later next)
 
 -- ---- a script
 
@@ -161,7 +191,7 @@ ranges_of s all =
     record { key = a.0; ticks = b.0; first = c.0; declared = d.0; second = e.0; last_declared = e.1 }
 
 -- node 1's declarations are taken after node 0, and make the script
-second_runs : (s : Script) → IsGood s → Ranges s → (t : TaskDecl) → Runs (Makes s) (between (key_of s) s.ticks (Some (first_node s)) (second_node s) [] t) (flat_map declaration_lines (second_node s).decls)
+second_runs : (s : Script) → IsGood s → Ranges s → (t : Owner) → Runs (Makes s) (between (key_of s) s.ticks (Some (first_node s)) (second_node s) [] t) (flat_map declaration_lines (second_node s).decls)
 second_runs s g r t =
     let n = first_node s in
     let m = second_node s in
@@ -178,7 +208,7 @@ script_runs s g =
     let m = second_node s in
     let other : eqb m.addr n.addr ≡ false = ne_eqb m.addr n.addr g.addresses in
     let good : GoodAfter [] n.decls = record { ranges = r.declared; written = g.first.written; distinct = g.first.distinct } in
-    let last : (t : TaskDecl) → Runs (Makes s) (between (key_of s) s.ticks None n n.decls t) (SecondNode (node_line m) ∷ flat_map declaration_lines m.decls) = λ t.
+    let last : (t : Owner) → Runs (Makes s) (between (key_of s) s.ticks None n n.decls t) (SecondNode (node_line m) ∷ flat_map declaration_lines m.decls) = λ t.
     (record { place = refl; range = r.second; room = rw other refl; fresh = refl }, refl, second_runs s g r t) in (
       record { place = refl; range = refl; room = refl; fresh = refl },
       refl,
@@ -191,7 +221,7 @@ script_runs s g =
           (
             record { place = refl; range = r.first; room = refl; fresh = refl },
             refl,
-            declarations_run (Makes s) n.decls (key_of s) s.ticks None n [] no_task (SecondNode (node_line m) ∷ flat_map declaration_lines m.decls) good last,
+            declarations_run (Makes s) n.decls (key_of s) s.ticks None n [] no_owner (SecondNode (node_line m) ∷ flat_map declaration_lines m.decls) good last,
           ),
         ),
       ),

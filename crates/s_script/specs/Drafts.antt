@@ -2,35 +2,41 @@
 -- own.
 use Rattle.std.specs.Prelude.{ℕ, Bool, true, false, not, ◌&&◌, List, [], ◌∷◌, ◌++◌, length, Option, Some, None, is_some, unwrap_or, map, nat_lt, ◌==◌, if◌then◌else◌}
 use Rattle.std.specs.List.{flat_map, list_any}
+use Rattle.it_types.specs.declared.request.Req.{Req}
 use Rattle.it_types.specs.declared.conf.TaskDecl.{TaskDecl}
 use Rattle.it_types.specs.declared.conf.SemDecl.{SemDecl}
 use Rattle.it_types.specs.declared.conf.FlgDecl.{FlgDecl}
 use Rattle.it_types.specs.declared.conf.DtqDecl.{DtqDecl}
+use Rattle.it_types.specs.declared.conf.CycDecl.{CycDecl}
+use Rattle.it_types.specs.declared.id.ObjId.{ObjId}
 use Rattle.spec_script.specs.declared.script.Script.{Script}
 use Rattle.spec_script.specs.declared.script.NodeDecl.{NodeDecl}
 use Rattle.spec_script.specs.declared.decl.Decl.{Decl}
 use Rattle.spec_script.specs.declared.decl.Decl.TheVariants as declarations
 use Rattle.spec_script.specs.declared.decl.Line.TheVariants as body_lines
 use Rattle.spec_script.specs.declared.script_line.ScriptLine.{ScriptLine}
-use Rattle.spec_script.specs.declared.script_line.ScriptLine.TheVariants.{Itron, Link, Ticks, FirstNode, SecondNode, Sem, Flg, Dtq, Task, Call, End}
+use Rattle.spec_script.specs.declared.script_line.ScriptLine.TheVariants.{Itron, Link, Ticks, FirstNode, SecondNode, Sem, Flg, Dtq, Task, Cyc, Cbr, Call, End}
 use Rattle.spec_script.specs.declared.script_line.NodeLine.{NodeLine}
 use Rattle.spec_script.specs.Lines.{no_node, node_line, body_line, declaration_lines}
-use Rattle.spec_script.specs.Ranges.{is_in_range, body_limit, is_task, is_semaphore, is_flag, is_queue}
+use Rattle.spec_script.specs.Ranges.{is_in_range, body_limit, is_task, is_semaphore, is_flag, is_queue, is_cyclic, is_routine}
 use Rattle.s_script.specs.declared.read_bad.Why.{Why}
 use Rattle.s_script.specs.declared.read_bad.Why.TheVariants.{Form, Range, Twice}
 use Rattle.s_script.specs.declared.draft.Stage.{Stage}
-use Rattle.s_script.specs.declared.draft.Stage.TheVariants.{Start, Headed, Linked, Timed, Declares, InTask}
+use Rattle.s_script.specs.declared.draft.Stage.TheVariants.{Start, Headed, Linked, Timed, Declares, InBody}
 use Rattle.s_script.specs.declared.draft.Draft.{Draft}
+use Rattle.s_script.specs.declared.owner.Owner.{Owner}
+use Rattle.s_script.specs.declared.owner.Owner.TheVariants as owners
+use Rattle.s_script.specs.Owners.{opening, may_call, declaration_of}
 
 -- ---- a draft and its lines
 
--- the task of a draft that has none open
-abbrev pub no_task : TaskDecl
-no_task = record { id = 0; pri = 0; act = true }
+-- the owner in a draft that has no body open
+abbrev pub no_owner : Owner
+no_owner = owners.Task (record { id = 0; pri = 0; act = true })
 
 -- before the first line
 abbrev pub start : Draft
-start = record { stage = Start; key = 0; ticks = 0; first = None; node = no_node; task = no_task; body = [] }
+start = record { stage = Start; key = 0; ticks = 0; first = None; node = no_node; owner = no_owner; body = [] }
 
 -- the script of a whole draft
 abbrev pub script_of : Draft → Script
@@ -56,7 +62,7 @@ lines_at Headed d = Itron ∷ []
 lines_at Linked d = Itron ∷ Link (Some d.key) ∷ []
 lines_at Timed d = Itron ∷ Link (Some d.key) ∷ Ticks (Some d.ticks) ∷ []
 lines_at Declares d = begun d ++ flat_map declaration_lines d.node.decls
-lines_at InTask d = begun d ++ (flat_map declaration_lines d.node.decls ++ (Task (Some d.task.id) (Some d.task.pri) d.task.act ∷ map body_line d.body))
+lines_at InBody d = begun d ++ (flat_map declaration_lines d.node.decls ++ (opening d.owner ∷ map body_line d.body))
 
 -- ---- what is wrong with a line
 
@@ -64,20 +70,22 @@ lines_at InTask d = begun d ++ (flat_map declaration_lines d.node.decls ++ (Task
 abbrev pub is_last : Draft → Bool
 is_last d = is_some d.first
 
--- which line may come at which stage; node 1 comes once
-abbrev pub in_place : Stage → Bool → ScriptLine → Bool
-in_place Start last Itron = true
-in_place Headed last (Link key) = true
-in_place Linked last (Ticks ticks) = true
-in_place Timed last (FirstNode n) = true
-in_place Declares last (Sem id pri init max) = true
-in_place Declares last (Flg id pri many clr init) = true
-in_place Declares last (Dtq id pri cap) = true
-in_place Declares last (Task id pri act) = true
-in_place Declares last (SecondNode n) = not last
-in_place InTask last (Call request fits) = true
-in_place InTask last End = true
-in_place _ _ _ = false
+-- which line may come at which stage; node 1 comes once, and a body has the calls that its owner may make
+abbrev pub in_place : Stage → Bool → Owner → ScriptLine → Bool
+in_place Start last owner Itron = true
+in_place Headed last owner (Link key) = true
+in_place Linked last owner (Ticks ticks) = true
+in_place Timed last owner (FirstNode n) = true
+in_place Declares last owner (Sem id pri init max) = true
+in_place Declares last owner (Flg id pri many clr init) = true
+in_place Declares last owner (Dtq id pri cap) = true
+in_place Declares last owner (Task id pri act) = true
+in_place Declares last owner (Cyc id period phase on) = true
+in_place Declares last owner (Cbr id) = true
+in_place Declares last owner (SecondNode n) = not last
+in_place InBody last owner (Call request fits) = may_call owner request
+in_place InBody last owner End = true
+in_place _ _ _ _ = false
 
 -- the bounds that go beyond the line itself: node 1 has an address of its own, and a body is not too long
 abbrev pub has_room : Draft → ScriptLine → Bool
@@ -91,6 +99,8 @@ is_declared d (Sem id pri init max) = list_any (is_semaphore (unwrap_or id 0)) d
 is_declared d (Flg id pri many clr init) = list_any (is_flag (unwrap_or id 0)) d.node.decls
 is_declared d (Dtq id pri cap) = list_any (is_queue (unwrap_or id 0)) d.node.decls
 is_declared d (Task id pri act) = list_any (is_task (unwrap_or id 0)) d.node.decls
+is_declared d (Cyc id period phase on) = list_any (is_cyclic (unwrap_or id 0)) d.node.decls
+is_declared d (Cbr id) = list_any (is_routine (unwrap_or id 0)) d.node.decls
 is_declared d _ = false
 
 -- the cause of the first test that is true
@@ -100,7 +110,7 @@ first_cause (test ∷ tests) = if test.0 then Some test.1 else first_cause tests
 
 -- what is wrong with the line, if anything
 abbrev pub cause : Draft → ScriptLine → Option Why
-cause d l = first_cause ((not (in_place d.stage (is_last d) l), Form) ∷ (not (is_in_range l && has_room d l), Range) ∷ (is_declared d l, Twice) ∷ [])
+cause d l = first_cause ((not (in_place d.stage (is_last d) d.owner l), Form) ∷ (not (is_in_range l && has_room d l), Range) ∷ (is_declared d l, Twice) ∷ [])
 
 -- ---- what a line adds
 
@@ -120,6 +130,12 @@ flag_of id pri many clr init = record { id = unwrap_or id 0; pri = pri; many = m
 abbrev pub queue_of : Option ℕ → Bool → Option ℕ → DtqDecl
 queue_of id pri cap = record { id = unwrap_or id 0; pri = pri; cap = unwrap_or cap 0 }
 
+abbrev pub cyclic_of : Option ℕ → Option ℕ → Option ℕ → Bool → CycDecl
+cyclic_of id period phase on = record { id = unwrap_or id 0; period = unwrap_or period 0; phase = unwrap_or phase 0; on = on }
+
+abbrev pub routine_of : Option ℕ → ObjId
+routine_of id = record { 0 = unwrap_or id 0 }
+
 -- one more declaration of a node
 abbrev pub declared : NodeDecl → Decl → NodeDecl
 declared n declaration = record n { decls = n.decls ++ declaration ∷ [] }
@@ -127,6 +143,14 @@ declared n declaration = record n { decls = n.decls ++ declaration ∷ [] }
 -- the draft after the line of an object
 abbrev pub with_object : Draft → Decl → Draft
 with_object d declaration = record d { stage = Declares; node = declared d.node declaration }
+
+-- the draft after the line that opens a body
+abbrev pub opened : Draft → Owner → Draft
+opened d owner = record d { stage = InBody; owner = owner; body = [] }
+
+-- the draft after a call of the body
+abbrev pub with_call : Draft → Req → Draft
+with_call d request = record d { stage = InBody; body = d.body ++ body_lines.Call request ∷ [] }
 
 -- the draft after the line
 abbrev pub moved : Draft → ScriptLine → Draft
@@ -138,6 +162,8 @@ moved d (SecondNode n) = record d { stage = Declares; first = Some d.node; node 
 moved d (Sem id pri init max) = with_object d (declarations.Sem (semaphore_of id pri init max))
 moved d (Flg id pri many clr init) = with_object d (declarations.Flg (flag_of id pri many clr init))
 moved d (Dtq id pri cap) = with_object d (declarations.Dtq (queue_of id pri cap))
-moved d (Task id pri act) = record d { stage = InTask; task = task_of id pri act; body = [] }
-moved d (Call request fits) = record d { stage = InTask; body = d.body ++ body_lines.Call request ∷ [] }
-moved d End = record d { stage = Declares; node = declared d.node (declarations.Task d.task (record { lines = d.body })); body = [] }
+moved d (Task id pri act) = opened d (owners.Task (task_of id pri act))
+moved d (Cyc id period phase on) = opened d (owners.Cyc (cyclic_of id period phase on))
+moved d (Cbr id) = opened d (owners.Cbr (routine_of id))
+moved d (Call request fits) = with_call d request
+moved d End = record d { stage = Declares; node = declared d.node (declaration_of d.owner (record { lines = d.body })); body = [] }

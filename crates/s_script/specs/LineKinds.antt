@@ -7,7 +7,7 @@ use Rattle.it_types.specs.Cursor.{◌>>=◌, or_else, after, at_end, split_while
 use Rattle.it_types.specs.Numbers.{number_at, address_at}
 use Rattle.it_types.specs.Lines.{call_of}
 use Rattle.spec_script.specs.declared.script_line.ScriptLine.{ScriptLine}
-use Rattle.spec_script.specs.declared.script_line.ScriptLine.TheVariants.{Itron, Link, Ticks, FirstNode, SecondNode, Sem, Flg, Dtq, Task, Call, End}
+use Rattle.spec_script.specs.declared.script_line.ScriptLine.TheVariants.{Itron, Link, Ticks, FirstNode, SecondNode, Sem, Flg, Dtq, Task, Cyc, Cbr, Call, End}
 use Rattle.spec_script.specs.declared.script_line.NodeLine.{NodeLine}
 use Rattle.spec_script.specs.Today.{may_write}
 use Rattle.spec_script.specs.Ranges.{data_limit}
@@ -106,6 +106,9 @@ clearing_field bytes = choice_field (codes "clr") (codes "keep") bytes
 abbrev pub start_field : List ℕ → Option (Bool × List ℕ)
 start_field bytes = choice_field (codes "act") (codes "dor") bytes
 
+abbrev pub running_field : List ℕ → Option (Bool × List ℕ)
+running_field bytes = choice_field (codes "on") (codes "off") bytes
+
 -- sem ID fifo INIT MAX
 unfoldable pub sem_line : List ℕ → Option ScriptLine
 sem_line bytes = do
@@ -141,6 +144,21 @@ task_line bytes = do
   act ← start_field pri.1
   at_end act.1 (Task id.0 pri.0 act.0)
 
+-- cyc ID PERIOD PHASE on
+unfoldable pub cyc_line : List ℕ → Option ScriptLine
+cyc_line bytes = do
+  id ← number_field bytes
+  period ← number_field id.1
+  phase ← number_field period.1
+  on ← running_field phase.1
+  at_end on.1 (Cyc id.0 period.0 phase.0 on.0)
+
+-- cbr ID
+unfoldable pub cbr_line : List ℕ → Option ScriptLine
+cbr_line bytes = do
+  id ← number_field bytes
+  at_end id.1 (Cbr id.0)
+
 -- end
 abbrev pub end_line : List ℕ → Option ScriptLine
 end_line bytes = at_end bytes End
@@ -154,7 +172,8 @@ Kinds = List (List ℕ × (List ℕ → Option ScriptLine))
 abbrev pub kinds : Kinds
 kinds =
     (codes "itron", itron_line) ∷ (codes "link", link_line) ∷ (codes "ticks", ticks_line) ∷ (codes "node", either_node_line)
-    ∷ (codes "sem", sem_line) ∷ (codes "flg", flg_line) ∷ (codes "dtq", dtq_line) ∷ (codes "task", task_line) ∷ (codes "end", end_line) ∷ []
+    ∷ (codes "sem", sem_line) ∷ (codes "flg", flg_line) ∷ (codes "dtq", dtq_line) ∷ (codes "task", task_line) ∷ (codes "cyc", cyc_line) ∷ (codes "cbr", cbr_line)
+    ∷ (codes "end", end_line) ∷ []
 
 -- the first kind with this word reads the bytes after it
 abbrev pub by_word : Kinds → List ℕ → List ℕ → Option ScriptLine

@@ -1,7 +1,9 @@
 ghost use Rattle.std.specs.Prelude.{◌≡◌, IfOk};
-ghost use Rattle.spec_script.specs.Configuration.{declared_tasks, declared_semaphores, declared_flags, declared_queues, node_conf, conf_of};
+ghost use Rattle.spec_script.specs.Configuration.{declared_tasks, declared_semaphores, declared_flags, declared_queues, declared_cyclics, declared_routines, node_conf, conf_of};
 
-use it_types::{Conf, DtqDecl, FlgDecl, List, NoMemory, NodeConf, SemDecl, TaskDecl};
+use it_types::{
+    Conf, CycDecl, DtqDecl, FlgDecl, List, NoMemory, NodeConf, ObjId, SemDecl, TaskDecl,
+};
 use spec_script::{Decl, NodeDecl, Script};
 use std::alloc::Global;
 
@@ -53,6 +55,30 @@ fn declared_queues(alloc: Global, decls: &[Decl]) -> Result<List<DtqDecl>, NoMem
     Ok(list)
 }
 
+fn declared_cyclics(alloc: Global, decls: &[Decl]) -> Result<List<CycDecl>, NoMemory>
+    ensures { IfOk result (λ list. list ≡ declared_cyclics decls.now) }
+{
+    let mut list = List::new(alloc);
+    for decl in decls {
+        if let Decl::Cyc(cyc, _) = decl {
+            list.push(*cyc)?;
+        }
+    }
+    Ok(list)
+}
+
+fn declared_routines(alloc: Global, decls: &[Decl]) -> Result<List<ObjId>, NoMemory>
+    ensures { IfOk result (λ list. list ≡ declared_routines decls.now) }
+{
+    let mut list = List::new(alloc);
+    for decl in decls {
+        if let Decl::Cbr(cbr, _) = decl {
+            list.push(*cbr)?;
+        }
+    }
+    Ok(list)
+}
+
 fn node_conf(alloc: Global, node: &NodeDecl) -> Result<NodeConf, NoMemory>
     ensures { IfOk result (λ conf. conf ≡ node_conf node.now) }
 {
@@ -64,8 +90,8 @@ fn node_conf(alloc: Global, node: &NodeDecl) -> Result<NodeConf, NoMemory>
         sems: declared_semaphores(alloc, node.decls.as_slice())?,
         flags: declared_flags(alloc, node.decls.as_slice())?,
         dtqs: declared_queues(alloc, node.decls.as_slice())?,
-        cycs: List::new(alloc),
-        cbrs: List::new(alloc),
+        cycs: declared_cyclics(alloc, node.decls.as_slice())?,
+        cbrs: declared_routines(alloc, node.decls.as_slice())?,
     })
 }
 

@@ -3,10 +3,10 @@
 ghost use Rattle.std.specs.Prelude.{◌≡◌, true, ◌<◌, ◌^◌, unwrap_or};
 ghost use Rattle.std.specs.Option.{ForSome};
 ghost use Rattle.std.specs.List.{list_any};
-ghost use Rattle.spec_script.specs.Ranges.{is_in_range, is_task, is_semaphore, is_flag, is_queue};
-ghost use Rattle.s_script.specs.Drafts.{task_of, semaphore_of, flag_of, queue_of};
+ghost use Rattle.spec_script.specs.Ranges.{is_in_range, is_task, is_semaphore, is_flag, is_queue, is_cyclic, is_routine};
+ghost use Rattle.s_script.specs.Drafts.{task_of, semaphore_of, flag_of, queue_of, cyclic_of, routine_of};
 
-use it_types::{DtqDecl, FlgDecl, SemDecl, TaskDecl};
+use it_types::{CycDecl, DtqDecl, FlgDecl, ObjId, SemDecl, TaskDecl};
 use spec_script::{Decl, ScriptLine};
 
 /// The number, which has 32 bits; 0 where it is not there.
@@ -67,6 +67,25 @@ pub fn queue_of(id: Option<u64>, pri: bool, cap: Option<u64>) -> DtqDecl
     }
 }
 
+pub fn cyclic_of(id: Option<u64>, period: Option<u64>, phase: Option<u64>, on: bool) -> CycDecl
+    requires { is_in_range (ScriptLine.Cyc id period phase on) ≡ true }
+    ensures { result ≡ cyclic_of id period phase on }
+{
+    CycDecl {
+        id: to_u32(id),
+        period: to_u32(period),
+        phase: to_u32(phase),
+        on,
+    }
+}
+
+pub fn routine_of(id: Option<u64>) -> ObjId
+    requires { is_in_range (ScriptLine.Cbr id) ≡ true }
+    ensures { result ≡ routine_of id }
+{
+    ObjId(to_u32(id))
+}
+
 fn is_task(decl: &Decl, id: u64) -> bool
     ensures { result ≡ is_task id decl.now }
 {
@@ -103,6 +122,24 @@ fn is_queue(decl: &Decl, id: u64) -> bool
     }
 }
 
+fn is_cyclic(decl: &Decl, id: u64) -> bool
+    ensures { result ≡ is_cyclic id decl.now }
+{
+    match decl {
+        Decl::Cyc(cyc, _) => u64::from(cyc.id) == id,
+        _ => false,
+    }
+}
+
+fn is_routine(decl: &Decl, id: u64) -> bool
+    ensures { result ≡ is_routine id decl.now }
+{
+    match decl {
+        Decl::Cbr(cbr, _) => u64::from(cbr.0) == id,
+        _ => false,
+    }
+}
+
 pub fn declares_task(decls: &[Decl], id: u64) -> bool
     ensures { result ≡ list_any (is_task id) decls.now }
 {
@@ -125,4 +162,16 @@ pub fn declares_queue(decls: &[Decl], id: u64) -> bool
     ensures { result ≡ list_any (is_queue id) decls.now }
 {
     decls.iter().any(|decl| is_queue(decl, id))
+}
+
+pub fn declares_cyclic(decls: &[Decl], id: u64) -> bool
+    ensures { result ≡ list_any (is_cyclic id) decls.now }
+{
+    decls.iter().any(|decl| is_cyclic(decl, id))
+}
+
+pub fn declares_routine(decls: &[Decl], id: u64) -> bool
+    ensures { result ≡ list_any (is_routine id) decls.now }
+{
+    decls.iter().any(|decl| is_routine(decl, id))
 }

@@ -1,15 +1,17 @@
 ghost use Rattle.std.specs.Prelude.{◌≡◌, true, [], OnOk};
 ghost use Rattle.spec_script.specs.Lines.{no_node};
 ghost use Rattle.spec_script.specs.Ranges.{is_node_in_range, is_in_range};
-ghost use Rattle.s_script.specs.Drafts.{start, is_last, in_place, has_room, is_declared, cause, node_of, with_object, moved};
+ghost use Rattle.s_script.specs.Drafts.{start, is_last, in_place, has_room, is_declared, cause, node_of, with_object, opened, with_call, moved};
 
 use crate::Why;
 use crate::declaration::{
-    declares_flag, declares_queue, declares_semaphore, declares_task, flag_of, queue_of,
-    semaphore_of, task_of, to_u32,
+    cyclic_of, declares_cyclic, declares_flag, declares_queue, declares_routine,
+    declares_semaphore, declares_task, flag_of, queue_of, routine_of, semaphore_of, task_of,
+    to_u32,
 };
+use crate::owner::Owner;
 use crate::ranges::is_in_range;
-use it_types::{List, NoMemory, TaskDecl};
+use it_types::{List, NoMemory, Req, TaskDecl};
 use spec_script::{Body, Decl, Line, NodeDecl, NodeLine, ScriptLine};
 use std::alloc::Global;
 use std::mem;
@@ -30,8 +32,8 @@ pub enum Stage {
     Timed,
     /// A node has begun, and no body is open.
     Declares,
-    /// A task's body is open.
-    InTask,
+    /// A body is open.
+    InBody,
 }
 
 /// The script so far; a field that the stage does not use has no meaning.
@@ -44,8 +46,8 @@ pub struct Draft {
     pub first: Option<NodeDecl>,
     /// The node that has begun last, to which declarations go.
     pub node: NodeDecl,
-    /// The task whose body is open, and that body.
-    pub task: TaskDecl,
+    /// Whose body is open, and that body.
+    pub owner: Owner,
     pub body: List<Line>,
 }
 
@@ -72,9 +74,9 @@ fn node_of(alloc: Global, line: NodeLine) -> NodeDecl
     }
 }
 
-/// Whether the line may come at the stage; `last` says that node 1 has begun.
-fn in_place(stage: Stage, last: bool, line: &ScriptLine) -> bool
-    ensures { result ≡ in_place stage last line.now }
+/// Whether the line may come at the stage; `last` says that node 1 has begun, and `owner` whose body is open, if one is.
+fn in_place(stage: Stage, last: bool, owner: Owner, line: &ScriptLine) -> bool
+    ensures { result ≡ in_place stage last owner line.now }
 {
     match (stage, line) {
         (Stage::Start, ScriptLine::Itron) => true,
@@ -85,9 +87,11 @@ fn in_place(stage: Stage, last: bool, line: &ScriptLine) -> bool
         (Stage::Declares, ScriptLine::Flg { .. }) => true,
         (Stage::Declares, ScriptLine::Dtq { .. }) => true,
         (Stage::Declares, ScriptLine::Task { .. }) => true,
+        (Stage::Declares, ScriptLine::Cyc { .. }) => true,
+        (Stage::Declares, ScriptLine::Cbr { .. }) => true,
         (Stage::Declares, ScriptLine::SecondNode(_)) => !last,
-        (Stage::InTask, ScriptLine::Call { .. }) => true,
-        (Stage::InTask, ScriptLine::End) => true,
+        (Stage::InBody, ScriptLine::Call { req, .. }) => owner.may_call(req),
+        (Stage::InBody, ScriptLine::End) => true,
         _ => false,
     }
 }
@@ -103,11 +107,11 @@ impl Draft {
             ticks: 0,
             first: None,
             node: no_node(alloc),
-            task: TaskDecl {
+            owner: Owner::Task(TaskDecl {
                 id: 0,
                 pri: 0,
                 act: true,
-            },
+            }),
             body: List::new(alloc),
         }
     }
@@ -133,6 +137,8 @@ impl Draft {
             | ScriptLine::Flg { .. }
             | ScriptLine::Dtq { .. }
             | ScriptLine::Task { .. }
+            | ScriptLine::Cyc { .. }
+            | ScriptLine::Cbr { .. }
             | ScriptLine::End => true,
         }
     }
@@ -146,6 +152,8 @@ impl Draft {
             ScriptLine::Flg { id, .. } => declares_flag(decls, id.unwrap_or(0)),
             ScriptLine::Dtq { id, .. } => declares_queue(decls, id.unwrap_or(0)),
             ScriptLine::Task { id, .. } => declares_task(decls, id.unwrap_or(0)),
+            ScriptLine::Cyc { id, .. } => declares_cyclic(decls, id.unwrap_or(0)),
+            ScriptLine::Cbr { id } => declares_routine(decls, id.unwrap_or(0)),
             ScriptLine::Itron
             | ScriptLine::Link { .. }
             | ScriptLine::Ticks { .. }
@@ -160,7 +168,7 @@ impl Draft {
     pub fn cause(&self, line: &ScriptLine) -> Option<Why>
         ensures { result ≡ cause self.now line.now }
     {
-        if !in_place(self.stage, self.is_last(), line) {
+        if !in_place(self.stage, self.is_last(), self.owner, line) {
             Some(Why::Form)
         } else if !(is_in_range(line) && self.has_room(line)) {
             Some(Why::Range)
@@ -169,6 +177,21 @@ impl Draft {
         } else {
             None
         }
+    }
+
+    fn set_key(&mut self, key: Option<u64>)
+        ensures { self.new ≡ moved self.old (ScriptLine.Link key) }
+    {
+        self.stage = Stage::Linked;
+        self.key = key.unwrap_or(0);
+    }
+
+    fn set_ticks(&mut self, ticks: Option<u64>)
+        requires { is_in_range (ScriptLine.Ticks ticks) ≡ true }
+        ensures { self.new ≡ moved self.old (ScriptLine.Ticks ticks) }
+    {
+        self.stage = Stage::Timed;
+        self.ticks = to_u32(ticks);
     }
 
     fn begin_first(&mut self, alloc: Global, line: NodeLine)
@@ -188,11 +211,11 @@ impl Draft {
         self.first = Some(mem::replace(&mut self.node, node_of(alloc, line)));
     }
 
-    fn open_task(&mut self, alloc: Global, task: TaskDecl)
-        ensures { self.new ≡ record self.old { stage = Stage.InTask; task = task; body = [] } }
+    fn open(&mut self, alloc: Global, owner: Owner)
+        ensures { self.new ≡ opened self.old owner }
     {
-        self.stage = Stage::InTask;
-        self.task = task;
+        self.stage = Stage::InBody;
+        self.owner = owner;
         self.body = List::new(alloc);
     }
 
@@ -204,13 +227,20 @@ impl Draft {
         Ok(())
     }
 
-    fn close_task(&mut self, alloc: Global) -> Result<(), NoMemory>
+    fn add_call(&mut self, req: Req) -> Result<(), NoMemory>
+        ensures { OnOk result (self.new ≡ with_call self.old req) }
+    {
+        self.stage = Stage::InBody;
+        self.body.push(Line::Call { req })?;
+        Ok(())
+    }
+
+    fn close(&mut self, alloc: Global) -> Result<(), NoMemory>
         ensures { OnOk result (self.new ≡ moved self.old ScriptLine.End) }
     {
         let lines = mem::replace(&mut self.body, List::new(alloc));
-        self.node.decls.push(Decl::Task(self.task, Body { lines }))?;
-        self.stage = Stage::Declares;
-        Ok(())
+        let declaration = self.owner.declaration(Body { lines });
+        self.add_object(declaration)
     }
 
     /// Adds the line, which has no cause to be refused. Without memory the draft has no meaning.
@@ -220,14 +250,8 @@ impl Draft {
     {
         match line {
             ScriptLine::Itron => self.stage = Stage::Headed,
-            ScriptLine::Link { key } => {
-                self.stage = Stage::Linked;
-                self.key = key.unwrap_or(0);
-            }
-            ScriptLine::Ticks { ticks } => {
-                self.stage = Stage::Timed;
-                self.ticks = to_u32(ticks);
-            }
+            ScriptLine::Link { key } => self.set_key(key),
+            ScriptLine::Ticks { ticks } => self.set_ticks(ticks),
             ScriptLine::FirstNode(node) => self.begin_first(alloc, node),
             ScriptLine::SecondNode(node) => self.begin_second(alloc, node),
             ScriptLine::Sem { id, pri, init, max } => {
@@ -242,15 +266,19 @@ impl Draft {
             } => {
                 self.add_object(Decl::Flg(flag_of(id, pri, many, clr, init)))?;
             }
-            ScriptLine::Dtq { id, pri, cap } => {
-                self.add_object(Decl::Dtq(queue_of(id, pri, cap)))?;
+            ScriptLine::Dtq { id, pri, cap } => self.add_object(Decl::Dtq(queue_of(id, pri, cap)))?,
+            ScriptLine::Task { id, pri, act } => {
+                self.open(alloc, Owner::Task(task_of(id, pri, act)));
             }
-            ScriptLine::Task { id, pri, act } => self.open_task(alloc, task_of(id, pri, act)),
-            ScriptLine::Call { req, fits: _ } => {
-                self.stage = Stage::InTask;
-                self.body.push(Line::Call { req })?;
-            }
-            ScriptLine::End => self.close_task(alloc)?,
+            ScriptLine::Cyc {
+                id,
+                period,
+                phase,
+                on,
+            } => self.open(alloc, Owner::Cyc(cyclic_of(id, period, phase, on))),
+            ScriptLine::Cbr { id } => self.open(alloc, Owner::Cbr(routine_of(id))),
+            ScriptLine::Call { req, fits: _ } => self.add_call(req)?,
+            ScriptLine::End => self.close(alloc)?,
         }
         Ok(())
     }

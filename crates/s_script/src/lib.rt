@@ -6,6 +6,7 @@ mod declaration;
 mod draft;
 mod line;
 mod lines;
+mod owner;
 mod print;
 mod ranges;
 mod read_bad;

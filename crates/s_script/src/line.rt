@@ -1,6 +1,6 @@
 ghost use Rattle.std.specs.Prelude.{◌≡◌, IfOk};
 ghost use Rattle.it_types.specs.Cursor.{Gives};
-ghost use Rattle.s_script.specs.LineKinds.{itron_line, link_line, ticks_line, node_at, first_node_line, second_node_line, either_node_line, number_field, choice_at, choice_field, order_field, sem_line, flg_line, dtq_line, task_line, end_line, kinds, by_word, call_line, line_of};
+ghost use Rattle.s_script.specs.LineKinds.{itron_line, link_line, ticks_line, node_at, first_node_line, second_node_line, either_node_line, number_field, choice_at, choice_field, order_field, sem_line, flg_line, dtq_line, task_line, cyc_line, cbr_line, end_line, kinds, by_word, call_line, line_of};
 
 use it_types::NoMemory;
 use it_types::cursor::{after, at_end, is_word, split_word};
@@ -164,6 +164,33 @@ fn task_line(bytes: &[u8]) -> Option<ScriptLine>
     at_end(rest, ScriptLine::Task { id, pri, act })
 }
 
+#[tactic(auto, unfolding(it_types::specs::Cursor::and_then, crate::specs::LineKinds::cyc_line))]
+fn cyc_line(bytes: &[u8]) -> Option<ScriptLine>
+    ensures { result ≡ cyc_line bytes.now }
+{
+    let (id, rest) = number_field(bytes)?;
+    let (period, rest) = number_field(rest)?;
+    let (phase, rest) = number_field(rest)?;
+    let (on, rest) = choice_field(b"on", b"off", rest)?;
+    at_end(
+        rest,
+        ScriptLine::Cyc {
+            id,
+            period,
+            phase,
+            on,
+        },
+    )
+}
+
+#[tactic(auto, unfolding(it_types::specs::Cursor::and_then, crate::specs::LineKinds::cbr_line))]
+fn cbr_line(bytes: &[u8]) -> Option<ScriptLine>
+    ensures { result ≡ cbr_line bytes.now }
+{
+    let (id, rest) = number_field(bytes)?;
+    at_end(rest, ScriptLine::Cbr { id })
+}
+
 /// The line that begins with the word and goes on with the bytes, where it is no call.
 fn other_line(word: &[u8], bytes: &[u8]) -> Option<ScriptLine>
     ensures { result ≡ by_word kinds word.now bytes.now }
@@ -184,6 +211,10 @@ fn other_line(word: &[u8], bytes: &[u8]) -> Option<ScriptLine>
         dtq_line(bytes)
     } else if is_word(word, b"task") {
         task_line(bytes)
+    } else if is_word(word, b"cyc") {
+        cyc_line(bytes)
+    } else if is_word(word, b"cbr") {
+        cbr_line(bytes)
     } else if is_word(word, b"end") {
         at_end(bytes, ScriptLine::End)
     } else {

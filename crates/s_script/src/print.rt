@@ -3,7 +3,7 @@ ghost use Rattle.std.specs.List.{flat_map};
 ghost use Rattle.spec_script.specs.Lines.{choice_text, order_text, field, ended, spelled, node_text, body_line, declaration_lines, first_node, second_node, head_lines, node_line, script_text};
 
 use it_types::words::{put_address, put_number, put_numbered, put_word};
-use it_types::{DtqDecl, FlgDecl, NoMemory, SemDecl, TaskDecl, spell_into};
+use it_types::{CycDecl, DtqDecl, FlgDecl, NoMemory, ObjId, SemDecl, TaskDecl, spell_into};
 use spec_script::{Body, Decl, Line, NodeDecl, Script, ScriptLine};
 use std::alloc::Global;
 
@@ -98,6 +98,23 @@ fn put_task(out: &mut Vec<u8>, task: TaskDecl) -> Result<(), NoMemory>
     put_word(out, b"\n")
 }
 
+fn put_cyclic(out: &mut Vec<u8>, cyc: CycDecl) -> Result<(), NoMemory>
+    ensures { OnOk result (out.new.items ≡ out.old.items ++ spelled (ScriptLine.Cyc (Some cyc.id) (Some cyc.period) (Some cyc.phase) cyc.on)) }
+{
+    put_numbered(out, b"cyc ", cyc.id)?;
+    put_numbered(out, b" ", cyc.period)?;
+    put_numbered(out, b" ", cyc.phase)?;
+    put_choice(out, b"on", b"off", cyc.on)?;
+    put_word(out, b"\n")
+}
+
+fn put_routine(out: &mut Vec<u8>, cbr: ObjId) -> Result<(), NoMemory>
+    ensures { OnOk result (out.new.items ≡ out.old.items ++ spelled (ScriptLine.Cbr (Some cbr.0))) }
+{
+    put_numbered(out, b"cbr ", cbr.0)?;
+    put_word(out, b"\n")
+}
+
 fn put_body_line(alloc: Global, out: &mut Vec<u8>, line: &Line) -> Result<(), NoMemory>
     ensures { OnOk result (out.new.items ≡ out.old.items ++ spelled (body_line line.now)) }
 {
@@ -107,7 +124,7 @@ fn put_body_line(alloc: Global, out: &mut Vec<u8>, line: &Line) -> Result<(), No
     put_word(out, b"\n")
 }
 
-fn put_body(alloc: Global, out: &mut Vec<u8>, body: &Body) -> Result<(), NoMemory>
+fn put_body_lines(alloc: Global, out: &mut Vec<u8>, body: &Body) -> Result<(), NoMemory>
     ensures { OnOk result (out.new.items ≡ out.old.items ++ flat_map spelled (map body_line body.now.lines)) }
 {
     for line in body.lines.as_slice() {
@@ -116,18 +133,33 @@ fn put_body(alloc: Global, out: &mut Vec<u8>, body: &Body) -> Result<(), NoMemor
     Ok(())
 }
 
+/// Appends the lines of the body and its end.
+fn put_body(alloc: Global, out: &mut Vec<u8>, body: &Body) -> Result<(), NoMemory>
+    ensures { OnOk result (out.new.items ≡ out.old.items ++ flat_map spelled (map body_line body.now.lines ++ ScriptLine.End ∷ [])) }
+{
+    put_body_lines(alloc, out, body)?;
+    put_word(out, b"end\n")
+}
+
 fn put_declaration(alloc: Global, out: &mut Vec<u8>, decl: &Decl) -> Result<(), NoMemory>
     ensures { OnOk result (out.new.items ≡ out.old.items ++ flat_map spelled (declaration_lines decl.now)) }
 {
     match decl {
         Decl::Task(task, body) => {
             put_task(out, *task)?;
-            put_body(alloc, out, body)?;
-            put_word(out, b"end\n")
+            put_body(alloc, out, body)
         }
         Decl::Sem(sem) => put_sem(out, *sem),
         Decl::Flg(flag) => put_flag(out, *flag),
         Decl::Dtq(queue) => put_queue(out, *queue),
+        Decl::Cyc(cyc, body) => {
+            put_cyclic(out, *cyc)?;
+            put_body(alloc, out, body)
+        }
+        Decl::Cbr(cbr, body) => {
+            put_routine(out, *cbr)?;
+            put_body(alloc, out, body)
+        }
     }
 }
 

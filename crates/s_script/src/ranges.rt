@@ -3,8 +3,14 @@ ghost use Rattle.spec_script.specs.Ranges.{within, is_at_most, is_node_in_range,
 
 use spec_script::{NodeLine, ScriptLine};
 
-/// The greatest id of a task or an object.
+/// The greatest id of a task, an object or a callback routine.
 const MAX_ID: u64 = 16;
+
+/// The greatest id of a cyclic handler.
+const MAX_CYCLIC: u64 = 8;
+
+/// The greatest period and the greatest phase of a cyclic handler, in ticks.
+const MAX_PERIOD: u64 = 1000000;
 
 /// The least urgent priority of a task.
 const MAX_PRIORITY: u64 = 16;
@@ -72,6 +78,17 @@ pub fn is_in_range(line: &ScriptLine) -> bool
         ScriptLine::Task { id, pri, .. } => {
             is_within(1, *id, MAX_ID) && is_within(1, *pri, MAX_PRIORITY)
         }
+        ScriptLine::Cyc {
+            id,
+            period,
+            phase,
+            ..
+        } => {
+            is_within(1, *id, MAX_CYCLIC)
+                && is_within(1, *period, MAX_PERIOD)
+                && is_within(0, *phase, MAX_PERIOD)
+        }
+        ScriptLine::Cbr { id } => is_within(1, *id, MAX_ID),
         ScriptLine::Call { fits, .. } => *fits,
         ScriptLine::Itron | ScriptLine::End => true,
     }

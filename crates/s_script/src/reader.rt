@@ -38,7 +38,7 @@ fn finish(draft: Draft, number: usize, rest: &[u8]) -> Result<Script, ReadBad>
         ticks,
         first,
         node,
-        task: _,
+        owner: _,
         body: _,
     } = draft;
     match (stage, first, rest) {

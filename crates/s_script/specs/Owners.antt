@@ -1,0 +1,29 @@
+-- What a body is declared with: the line that opens it, the calls that it may have, and the declaration that it ends. It is this
+-- project's own.
+use Rattle.std.specs.Prelude.{Bool, true, not, Some}
+use Rattle.it_types.specs.declared.request.Req.{Req}
+use Rattle.spec_script.specs.declared.decl.Decl.{Decl}
+use Rattle.spec_script.specs.declared.decl.Decl.TheVariants as declarations
+use Rattle.spec_script.specs.declared.decl.Body.{Body}
+use Rattle.spec_script.specs.declared.script_line.ScriptLine.{ScriptLine}
+use Rattle.spec_script.specs.declared.script_line.ScriptLine.TheVariants as script_lines
+use Rattle.spec_script.specs.Today.{is_exit}
+use Rattle.s_script.specs.declared.owner.Owner.{Owner}
+use Rattle.s_script.specs.declared.owner.Owner.TheVariants.{Task, Cyc, Cbr}
+
+-- the line that opens its body
+abbrev pub opening : Owner → ScriptLine
+opening (Task task) = script_lines.Task (Some task.id) (Some task.pri) task.act
+opening (Cyc cyc) = script_lines.Cyc (Some cyc.id) (Some cyc.period) (Some cyc.phase) cyc.on
+opening (Cbr cbr) = script_lines.Cbr (Some cbr.0)
+
+-- whether its body may have the call: a handler is no task that ext_tsk could end
+abbrev pub may_call : Owner → Req → Bool
+may_call (Task task) request = true
+may_call _ request = not (is_exit request)
+
+-- its declaration, with its body
+abbrev pub declaration_of : Owner → Body → Decl
+declaration_of (Task task) body = declarations.Task task body
+declaration_of (Cyc cyc) body = declarations.Cyc cyc body
+declaration_of (Cbr cbr) body = declarations.Cbr cbr body
