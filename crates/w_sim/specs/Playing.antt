@@ -1,15 +1,16 @@
 -- The world of a script under way, by its history.
-use Rattle.std.specs.Prelude.{◌≡◌, ℕ, false, List, sum_by}
+use Rattle.std.specs.Prelude.{◌≡◌, ◌≤◌, ℕ, false, length, sum_by}
 use Rattle.it_types.specs.declared.event.Event.{Event}
 use Rattle.spec_world.specs.PlainWorld.{step}
 use Rattle.spec_world.specs.Sizes.{entry_size, is_full}
 use Rattle.spec_world.specs.History.{History, ends_with_stop, stepped, world_of}
+use Rattle.spec_sim.specs.Bodies.{Places}
 use Rattle.spec_sim.specs.Schedule.{Plan, PlainPlay, node_0, node_1, places_after, delivered_after}
 
 pub record Playing : Type 0 where
   pub history : History
-  pub first : List ℕ  -- the places of node 0's tasks in their bodies, by task id
-  pub second : List ℕ  -- and those of node 1's
+  pub first : Places  -- of node 0
+  pub second : Places  -- of node 1
   pub delivered : ℕ  -- the packets delivered so far
 
 abbrev pub play_of : Playing → PlainPlay
@@ -30,8 +31,10 @@ moved plan p event = let entry = (step (world_of p.history) event).1 in record {
   delivered = delivered_after event p.delivered;
 }
 
--- the history has room for an entry more
-pub record GoesOn (h : History) : Type 0 where
-  pub lives : h.ended ≡ false
-  pub going : ends_with_stop h.log ≡ false
-  pub room : is_full h.log ≡ false
+-- the history has room for an entry more, and a handler made no more calls than it has entries
+pub record GoesOn (p : Playing) : Type 0 where
+  pub lives : p.history.ended ≡ false
+  pub going : ends_with_stop p.history.log ≡ false
+  pub room : is_full p.history.log ≡ false
+  pub first : p.first.handler ≤ length p.history.log
+  pub second : p.second.handler ≤ length p.history.log

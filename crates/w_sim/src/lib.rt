@@ -2,6 +2,7 @@
 #![tactic(auto)]
 
 mod body;
+mod choosing;
 mod history;
 mod places;
 mod play;
