@@ -3,6 +3,8 @@
 #![tactic(auto)]
 
 #[cfg(test)]
+mod handlers;
+#[cfg(test)]
 mod scripts;
 #[cfg(test)]
 mod words;

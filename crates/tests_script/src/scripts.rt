@@ -100,7 +100,7 @@ fn gives_a_node_all_its_objects(rt: HostRuntime) -> Result<(), Fail> {
     Ok(())
 }
 
-fn refusal(alloc: Global, text: &[u8]) -> Option<ReadBad> {
+pub(crate) fn refusal(alloc: Global, text: &[u8]) -> Option<ReadBad> {
     read(alloc, text).err()
 }
 
@@ -192,9 +192,11 @@ fn names_the_cause_of_a_wrong_call(rt: HostRuntime) -> Result<(), Fail> {
         ("fsnd_dtq 1 4294967296", Why::Range),
         ("set_tim 9223372036854775808", Why::Range),
         ("get_tim 1", Why::Form),
-        ("sta_cyc 1", Why::Form),
-        ("stp_cyc 1", Why::Form),
-        ("udp_del_cep 1", Why::Form),
+        ("sta_cyc", Why::Form),
+        ("stp_cyc 4294967296", Why::Range),
+        ("udp_del_cep 4294967296", Why::Range),
+        ("udp_can_cep 1 rcv", Why::Form),
+        ("tcp_del_rep 1", Why::Form),
         ("tcp_cre_rep 1 65536", Why::Form),
     ];
     for (call, why) in table {
@@ -226,8 +228,6 @@ fn names_the_cause_of_a_wrong_declaration(rt: HostRuntime) -> Result<(), Fail> {
         ("dtq 3 pri 2", Why::Twice),
         ("task 1 1 dormant", Why::Form),
         ("task 1 17 dor", Why::Range),
-        ("cyc 1 1 0 on", Why::Form),
-        ("cbr 1", Why::Form),
     ];
     for (declaration, why) in table {
         let text = format!(in rt.alloc();
