@@ -6,3 +6,5 @@ pub mod Cyclics
 pub mod DueOrder
 pub mod OtherEnds
 pub mod Progressing
+pub mod Deadlines
+pub mod Exchange

@@ -1,6 +1,6 @@
 -- What becomes of both parts of a node in an event: what waking the tasks keeps whose network calls ended, and that no call waits
 -- afterwards that didn't.
-use Rattle.std.proofs.Common.{◌≡◌, ◌∙◌, ℕ, ◌≤◌, List, [], ◌∷◌, length, refl, inl, inr, arith}
+use Rattle.std.proofs.Common.{◌≡◌, ◌∙◌, ◌≤◌, List, [], ◌∷◌, length, refl, inl, inr, arith}
 use Rattle.std.proofs.lemmas.Bool.{cases_Bool}
 use Rattle.it_types.specs.declared.id.TaskId.{TaskId}
 use Rattle.spec_lists.specs.First.{take_first}
