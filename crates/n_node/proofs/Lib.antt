@@ -1,7 +1,11 @@
-mod Returned
 mod Successes
+mod Waking
+mod Ending
+mod Receives
 mod Moving
 mod Timing
 mod Telling
+mod Answering
+mod Cyclics
+mod Packets
 mod Steps
-mod Networking

@@ -1,20 +1,26 @@
 -- The ends by time of a tick, one after another.
-use Rattle.std.proofs.Common.{◌≡◌, ℕ, zero, suc, ◌+◌, ◌≤◌, [], length, Some, None, refl, ap, sym, ◌∙◌, subst, inl, inr, arith}
+use Rattle.std.proofs.Common.{◌≡◌, ℕ, zero, suc, ◌+◌, ◌≤◌, List, [], ◌∷◌, length, Some, None, refl, ap, sym, ◌∙◌, subst, inl, inr, arith}
+use Rattle.std.proofs.lemmas.Bool.{cases_Bool}
 use Rattle.std.proofs.lemmas.List.{append-nil, nil_from_length}
 use Rattle.std.proofs.Common.{add-zero}
 use Rattle.it_types.specs.declared.answer.Ans.{Ans}
 use Rattle.it_types.specs.declared.answer.Ans.TheVariants as answers
-use Rattle.spec_lists.proofs.Firsts.{cases_of_first}
+use Rattle.it_types.specs.declared.id.TaskId.{TaskId}
+use Rattle.spec_lists.specs.First.{take_first}
+use Rattle.spec_lists.proofs.Firsts.{cases_of_first, take_first-shorter}
 use Rattle.spec_kernel.specs.declared.outcome.KEnd.{KEnd}
 use Rattle.spec_kernel.specs.PlainKernel.{PlainKernel}
 use Rattle.spec_kernel.specs.Settle.{Outcome}
-use Rattle.spec_kernel.specs.Time.{due}
+use Rattle.spec_kernel.specs.Time.{due, is_outside_of, unblocked}
+use Rattle.spec_pend.specs.declared.call.Who.{Who}
+use Rattle.spec_pend.specs.declared.call.Who.TheVariants as whos
+use Rattle.spec_pend.specs.declared.answer.NetEnd.{NetEnd}
+use Rattle.spec_udp.specs.Outside.{ended}
 use Rattle.laws_kernel.proofs.Timing.{due_none, due_shorter}
 use Rattle.k_core.specs.Kernel.{ended_alone}
 use Rattle.spec_node.specs.PlainNode.{PlainNode}
-use Rattle.spec_node.specs.Progress.{Progress, after_end, after_kernel, time_out, timed_out}
+use Rattle.spec_node.specs.Progress.{Progress, woken_for, woken_by, after_end, after_ends, after_kernel, time_out, timed_out}
 use Rattle.spec_node.specs.NodeStep.{beginning}
-use Rattle.spec_node.proofs.Progressing.{after_kernel-waits_le}
 use Rattle.n_node.specs.declared.parts.Parts.{Parts}
 use Rattle.n_node.specs.declared.told.Told.{Told}
 use Rattle.n_node.specs.Plain.{plain}
@@ -28,6 +34,37 @@ Ends parts told parts_after told_after = (start : PlainNode) (answer : Ans) (bef
 
 pub at_start : (parts : Parts) (told : Told) → Ends parts told parts told
 at_start parts told start answer before p h = (p, h, refl)
+
+-- ---- no end makes a call wait
+
+unblocked-waits_le : (k : PlainKernel) (task : TaskId) → length (unblocked k task).0.waits ≤ length k.waits
+unfolding unblocked
+unblocked-waits_le k task = elim (cases_of_first (take_first (is_outside_of task) k.waits)) [
+  | inl none ↦ rw none (omega arith)
+  | inr some ↦ rw some.1 (omega (arith, take_first-shorter (is_outside_of task) k.waits some.0 some.1))
+]
+
+woken_for-waits_le : (k : PlainKernel) (who : Who) → length (woken_for k who).waits ≤ length k.waits
+woken_for-waits_le k (whos.Task t) = unblocked-waits_le k t
+woken_for-waits_le k (whos.Callback t cbr) = omega arith
+
+woken_by-waits_le : (k : PlainKernel) (es : List NetEnd) → length (woken_by k es).waits ≤ length k.waits
+woken_by-waits_le k [] = omega arith
+woken_by-waits_le k (e ∷ es) = omega (arith, woken_for-waits_le k e.who, woken_by-waits_le (woken_for k e.who) es)
+
+after_end-waits_le : (p : Progress) (e : KEnd) → length (after_end p e).kernel.waits ≤ length p.kernel.waits
+after_end-waits_le p e = elim (cases_Bool e.outside) [
+  | inl t ↦ rw t (woken_by-waits_le p.kernel (ended p.net e.call e.code).endings.ends)
+  | inr t ↦ rw t (omega arith)
+]
+
+after_ends-waits_le : (p : Progress) (es : List KEnd) → length (after_ends p es).kernel.waits ≤ length p.kernel.waits
+after_ends-waits_le p [] = omega arith
+after_ends-waits_le p (e ∷ es) = omega (arith, after_end-waits_le p e, after_ends-waits_le (after_end p e) es)
+
+after_kernel-waits_le : (p : Progress) (o : Outcome) → length (after_kernel p o).kernel.waits ≤ length o.kernel.waits
+unfolding after_kernel
+after_kernel-waits_le p o = after_ends-waits_le (record p { kernel = o.kernel }) o.ends
 
 -- ---- the definition's turns
 
@@ -81,7 +118,7 @@ goes_on parts now middle after told told_now told_after e so_far d node move sta
     let at : now.kernel ≡ q.kernel = ap (λ (n : PlainNode). n.kernel) x.1.node in
     let turn : Progress = record q { kernel = middle.kernel } in (
       after_end turn e,
-      move start answer before turn (record { node = node ∙ ap (λ (n : PlainNode). record n { kernel = middle.kernel }) x.1.node; ends = x.1.ends; packets = x.1.packets }),
+      move start answer before turn (record { node = node ∙ ap (λ (n : PlainNode). record n { kernel = middle.kernel }) x.1.node; ends = x.1.ends; marks = x.1.marks; packets = x.1.packets }),
       sym (timed_out_some q (ended_alone middle.kernel e) (ap due (sym at) ∙ d)) ∙ x.2,
     )
 
@@ -106,6 +143,6 @@ pub fewer_wait : (now middle after : Parts) (told told_after : Told) (e : KEnd)
     → Moves middle told after told_after (λ p. after_end p e)
     → length after.kernel.waits + 1 ≤ length now.kernel.waits
 fewer_wait now middle after told told_after e d move =
-    let end = move (plain middle) answers.Quiet told (beginning (plain middle)) (record { node = ap (λ (calls : ℕ). record (plain middle) { calls = calls }) (sym (add-zero middle.calls)); ends = sym (append-nil told.ends); packets = sym (append-nil told.packs) }) in
+    let end = move (plain middle) answers.Quiet told (beginning (plain middle)) (record { node = ap (λ (calls : ℕ). record (plain middle) { calls = calls }) (sym (add-zero middle.calls)); ends = sym (append-nil told.ends); marks = sym (append-nil told.marks); packets = sym (append-nil told.packs) }) in
     let kernel : after.kernel ≡ (after_end (beginning (plain middle)) e).kernel = ap (λ (n : PlainNode). n.kernel) end.node in
     omega (arith, ap (λ (k : PlainKernel). length k.waits) kernel, after_waits_le middle e, due_shorter now.kernel (ended_alone middle.kernel e) d)

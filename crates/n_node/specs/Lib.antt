@@ -1,3 +1,4 @@
 pub mod Plain
-pub mod Kept
+pub mod Callers
 pub mod Coming
+pub mod Contexts

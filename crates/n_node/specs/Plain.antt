@@ -1,6 +1,7 @@
 -- The parts of a node as the plain node that they are.
+use Rattle.e_udp.specs.Does.{side}
 use Rattle.spec_node.specs.PlainNode.{PlainNode}
 use Rattle.n_node.specs.declared.parts.Parts.{Parts}
 
 abbrev pub plain : Parts → PlainNode
-plain p = record { kernel = p.kernel; net = p.udps; held = p.held.items; calls = p.calls }
+plain p = record { kernel = p.kernel; net = side p.udps p.pend; held = p.held.items; begun = p.begun; calls = p.calls }

@@ -5,19 +5,22 @@ ghost use Rattle.spec_node.specs.PlainNode.{opened_node};
 ghost use Rattle.n_node.specs.Plain.{plain};
 
 use crate::held::no_answers;
+use e_pend::Pend;
 use e_udp::Udps;
-use it_types::{NoMemory, NodeConf};
+use it_types::{Handler, NoMemory, NodeConf};
 use k_core::Kernel;
 use spec_node::Held;
 use std::alloc::Global;
 
-/// The parts of a node: its kernel, its UDP end points, the answers that its tasks have not taken yet, and how many call
-/// numbers it has drawn.
+/// The parts of a node: its kernel, its UDP end points, the calls of the network part that wait with the handlers that are due, the
+/// answers that its tasks have not taken yet, the handler that has begun, and how many call numbers it has drawn.
 #[derive(Debug, Drop)]
 pub struct Parts {
     pub(crate) kernel: Kernel,
     pub(crate) udps: Udps,
+    pub(crate) pend: Pend,
     pub(crate) held: Vec<Option<Held>>,
+    pub(crate) begun: Option<Handler>,
     pub(crate) calls: u32,
 }
 
@@ -25,13 +28,15 @@ impl Parts {
     /// The parts of a node with this configuration, before its first event.
     pub(crate) fn open(alloc: Global, conf: &NodeConf) -> Result<Parts, NoMemory>
         requires { IsDeclarable (kernel_conf conf.now) }
-        ensures { IfOk result (λ p. plain p ≡ opened_node (kernel_conf conf.now) conf.now.addr) }
+        ensures { IfOk result (λ p. plain p ≡ opened_node (kernel_conf conf.now) conf.now.addr conf.now.cbrs) }
     {
         let kernel_conf = conf.kernel_conf(alloc)?;
         Ok(Parts {
             kernel: Kernel::open(alloc, &kernel_conf)?,
-            udps: Udps::open(alloc, conf.addr)?,
+            udps: Udps::open(alloc, conf.addr, conf.cbrs.as_slice())?,
+            pend: Pend::open(alloc)?,
             held: no_answers(alloc)?,
+            begun: None,
             calls: 0,
         })
     }

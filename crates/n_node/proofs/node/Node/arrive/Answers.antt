@@ -1,7 +1,0 @@
-use Rattle.spec_node.specs.declared.event.NodeEv.TheVariants.{Arrive}
-use Rattle.n_node.specs.Plain.{plain}
-use Rattle.n_node.proofs.Steps.{stepped_kept}
-use Rattle.n_node.proofs.node.Node.arrive.Goals as goal
-
-pub invariant_of-self-2 : goal.invariant_of-self-2
-invariant_of-self-2 c = λ e. stepped_kept (plain c.self.inside.parts) (plain c.arrive.new.self) (Arrive c.args.bytes.now) c.in_ok-out.out (c.self.invariant c.if-self.false) c.in_ok-out.ensures
