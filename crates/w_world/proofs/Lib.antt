@@ -2,3 +2,4 @@ mod Places
 mod Taken
 mod Keeping
 mod Stopping
+mod Refusing

@@ -1,7 +1,6 @@
 -- What each event comes to at its node.
-use Rattle.std.proofs.Common.{◌≡◌, ℕ, List, ◌++◌, map, Some, None, refl, ap, sym, ◌∙◌, inl, inr}
-use mathlib.Core.Logic.{◌⊎◌}
-use Rattle.std.specs.Prelude.{slice_get}
+use Rattle.std.proofs.Common.{◌≡◌, List, ◌++◌, map, Some, None, Result, Ok, Err, refl, ap, sym, subst, ◌∙◌}
+use Rattle.std.specs.Prelude.{IfOk, slice_get}
 use Rattle.std.proofs.lemmas.List.{append-nil}
 use Rattle.std.proofs.lemmas.Option.{slice_get-map}
 use Rattle.std.specs.Option.{option_map}
@@ -10,63 +9,71 @@ use Rattle.it_types.specs.declared.id.TaskId.{TaskId}
 use Rattle.it_types.specs.declared.id.PackNo.{PackNo}
 use Rattle.it_types.specs.declared.context.Ctx.{Ctx}
 use Rattle.it_types.specs.declared.request.Req.{Req}
+use Rattle.it_types.specs.declared.no_memory.NoMemory.{NoMemory}
 use Rattle.it_types.specs.declared.event.Event.{Event}
 use Rattle.it_types.specs.declared.event.Event.TheVariants as events
 use Rattle.it_types.specs.declared.entry.Entry.{Entry}
 use Rattle.it_types.specs.declared.entry.Out.{Out}
-use Rattle.spec_node.specs.declared.event.NodeEv.TheVariants.{Call, Return, Tick, Arrive}
-use Rattle.spec_world.specs.PlainWorld.{Nodes, Packet, PlainWorld, nodes_step, peer_of, packet_from, entry_of, plain_entry, delivery, step}
+use Rattle.spec_node.specs.declared.event.NodeEv.{NodeEv}
+use Rattle.spec_node.specs.declared.event.NodeEv.TheVariants.{Call, Return, Begin, Finish, Tick, Arrive}
+use Rattle.spec_world.specs.PlainWorld.{Nodes, Packet, PlainWorld, nodes_step, peer_of, packet_from, entry_of, plain_entry, step_at, delivery, step}
 use Rattle.w_world.specs.declared.sent.Sent.{Sent}
+use Rattle.w_world.specs.declared.taking.Taken.{Taken}
 use Rattle.w_world.specs.Sending.{bytes_in, packet_in, world_in}
 use Rattle.w_world.specs.Takes.{nothing, Takes}
 
-pub call_takes : (w : PlainWorld) (id : NodeId) (ctx : Ctx) (request : Req) (nodes : Nodes) (out : Out) → nodes_step w.nodes id (Call ctx request) ≡ (nodes, out) → Takes w (events.Call id ctx request) nodes id out
-unfolding step
-call_takes w id ctx request nodes out e = record { is = ap (λ (r : Nodes × Out). (record { nodes = r.0; packets = w.packets ++ map (packet_from id) r.1.packs }, entry_of (events.Call id ctx request) r.1)) e }
+-- ---- an event that is one of a node
 
-pub return_takes : (w : PlainWorld) (id : NodeId) (task : TaskId) (nodes : Nodes) (out : Out) → nodes_step w.nodes id (Return task) ≡ (nodes, out) → Takes w (events.Return id task) nodes id out
+pub call_at : (w : PlainWorld) (id : NodeId) (ctx : Ctx) (request : Req) → step w (events.Call id ctx request) ≡ step_at w id (Call ctx request) (events.Call id ctx request)
 unfolding step
-return_takes w id task nodes out e = record { is = ap (λ (r : Nodes × Out). (record { nodes = r.0; packets = w.packets ++ map (packet_from id) r.1.packs }, entry_of (events.Return id task) r.1)) e }
+call_at w id ctx request = refl
 
-pub tick_takes : (w : PlainWorld) (id : NodeId) (nodes : Nodes) (out : Out) → nodes_step w.nodes id Tick ≡ (nodes, out) → Takes w (events.Tick id) nodes id out
+pub return_at : (w : PlainWorld) (id : NodeId) (task : TaskId) → step w (events.Return id task) ≡ step_at w id (Return task) (events.Return id task)
 unfolding step
-tick_takes w id nodes out e = record { is = ap (λ (r : Nodes × Out). (record { nodes = r.0; packets = w.packets ++ map (packet_from id) r.1.packs }, entry_of (events.Tick id) r.1)) e }
+return_at w id task = refl
 
-arrival_takes : (w : PlainWorld) (number : PackNo) (packet : Packet) (nodes : Nodes) (out : Out)
+pub begin_at : (w : PlainWorld) (id : NodeId) → step w (events.Begin id) ≡ step_at w id Begin (events.Begin id)
+unfolding step
+begin_at w id = refl
+
+pub finish_at : (w : PlainWorld) (id : NodeId) → step w (events.Finish id) ≡ step_at w id Finish (events.Finish id)
+unfolding step
+finish_at w id = refl
+
+pub tick_at : (w : PlainWorld) (id : NodeId) → step w (events.Tick id) ≡ step_at w id Tick (events.Tick id)
+unfolding step
+tick_at w id = refl
+
+-- what the node gives, or want of memory
+pub at_node_takes : (w : PlainWorld) (event : Event) (id : NodeId) (node_event : NodeEv) (nodes : Nodes) (r : Result Taken NoMemory)
+    → step w event ≡ step_at w id node_event event
+    → IfOk r (λ t. (t.by ≡ id) × (nodes_step w.nodes id node_event ≡ (nodes, t.out)))
+    → IfOk r (λ t. Takes w event nodes t.by t.out)
+at_node_takes w event id node_event nodes (Ok t) is given =
+    subst (λ by. Takes w event nodes by t.out) (sym given.0)
+    (record { is = is ∙ ap (λ (r : Nodes × Out). (record { nodes = r.0; packets = w.packets ++ map (packet_from id) r.1.packs }, entry_of event r.1)) given.1 })
+at_node_takes w event id node_event nodes (Err e) is given = tt
+
+-- ---- deliveries
+
+arrival_at : (w : PlainWorld) (number : PackNo) (packet : Packet)
     → slice_get w.packets number.0 ≡ Some packet
-    → nodes_step w.nodes (peer_of packet.sender) (Arrive packet.bytes) ≡ (nodes, out)
-    → Takes w (events.Deliver number) nodes (peer_of packet.sender) out
+    → step w (events.Deliver number) ≡ step_at w (peer_of packet.sender) (Arrive packet.bytes) (events.Deliver number)
 unfolding step
-arrival_takes w number packet nodes out found e = record {
-  is =
-      ap (delivery w number) found
-      ∙ ap (λ (r : Nodes × Out). (record { nodes = r.0; packets = w.packets ++ map (packet_from (peer_of packet.sender)) r.1.packs }, entry_of (events.Deliver number) r.1)) e;
-}
+arrival_at w number packet found = ap (delivery w number) found
 
 -- the packet that stands at this place reaches the other node
-pub deliver_takes : (before : Nodes) (log : List Entry) (sent : List Sent) (number : PackNo) (s : Sent) (by : NodeId) (bytes : List ℕ) (nodes : Nodes) (out : Out)
+pub delivered_at : (before : Nodes) (log : List Entry) (sent : List Sent) (number : PackNo) (s : Sent)
     → slice_get sent number.0 ≡ Some s
-    → by ≡ peer_of s.by
-    → bytes ≡ bytes_in log s
-    → nodes_step before by (Arrive bytes) ≡ (nodes, out)
-    → Takes (world_in before log sent) (events.Deliver number) nodes by out
-deliver_takes before log sent number s by bytes nodes out found b h e =
-    rw b
-    (arrival_takes (world_in before log sent) number (packet_in log s) nodes out (slice_get-map (packet_in log) sent number.0 ∙ ap (option_map (packet_in log)) found)
-    (sym (ap (λ i. nodes_step before i (Arrive (bytes_in log s))) b) ∙ sym (ap (λ xs. nodes_step before by (Arrive xs)) h) ∙ e))
+    → step (world_in before log sent) (events.Deliver number) ≡ step_at (world_in before log sent) (peer_of s.by) (Arrive (bytes_in log s)) (events.Deliver number)
+delivered_at before log sent number s found = arrival_at (world_in before log sent) number (packet_in log s) (slice_get-map (packet_in log) sent number.0 ∙ ap (option_map (packet_in log)) found)
+
+-- ---- an event at no node
 
 plain_takes : (w : PlainWorld) (event : Event) (by : NodeId) → step w event ≡ (w, plain_entry event) → Takes w event w.nodes by nothing
 plain_takes w event by e = record { is = e ∙ ap (λ (ps : List Packet). (record { nodes = w.nodes; packets = ps }, plain_entry event)) (sym (append-nil w.packets)) }
 
-begin_takes : (w : PlainWorld) (id by : NodeId) → Takes w (events.Begin id) w.nodes by nothing
-unfolding step
-begin_takes w id by = plain_takes w (events.Begin id) by refl
-
-finish_takes : (w : PlainWorld) (id by : NodeId) → Takes w (events.Finish id) w.nodes by nothing
-unfolding step
-finish_takes w id by = plain_takes w (events.Finish id) by refl
-
-stop_takes : (w : PlainWorld) (by : NodeId) → Takes w events.Stop w.nodes by nothing
+pub stop_takes : (w : PlainWorld) (by : NodeId) → Takes w events.Stop w.nodes by nothing
 unfolding step
 stop_takes w by = plain_takes w events.Stop by refl
 
@@ -77,12 +84,3 @@ none_takes w number by e = plain_takes w (events.Deliver number) by (ap (deliver
 -- a packet that was not sent reaches nobody
 pub unsent_takes : (nodes : Nodes) (log : List Entry) (sent : List Sent) (number : PackNo) (by : NodeId) → slice_get sent number.0 ≡ None → Takes (world_in nodes log sent) (events.Deliver number) nodes by nothing
 unsent_takes nodes log sent number by e = none_takes (world_in nodes log sent) number by (slice_get-map (packet_in log) sent number.0 ∙ ap (option_map (packet_in log)) e)
-
--- the events that no node admits yet, and the stop
-pub plain_event_takes : (w : PlainWorld) (event : Event) (by : NodeId) (out : Out)
-    → ((id : NodeId) × (event ≡ events.Begin id)) ⊎ (((id : NodeId) × (event ≡ events.Finish id)) ⊎ (event ≡ events.Stop))
-    → out ≡ nothing
-    → Takes w event w.nodes by out
-plain_event_takes w event by out (inl h) o = rw (h.1, o) (begin_takes w h.0 by)
-plain_event_takes w event by out (inr (inl h)) o = rw (h.1, o) (finish_takes w h.0 by)
-plain_event_takes w event by out (inr (inr h)) o = rw (h, o) (stop_takes w by)

@@ -2,13 +2,13 @@ ghost use Rattle.std.specs.Prelude.{◌≡◌, true, IfOk, nat_le};
 ghost use Rattle.it_types.specs.declared.request.Req.{Req as ARequest};
 ghost use Rattle.it_types.specs.Configuration.{first_conf, kernel_conf, second_conf};
 ghost use Rattle.spec_kernel.specs.Opening.{IsDeclarable};
-ghost use Rattle.spec_node.specs.declared.event.NodeEv.TheVariants.{Call as Called, Return as Returned, Tick as Ticked, Arrive as Arrived};
+ghost use Rattle.spec_node.specs.declared.event.NodeEv.TheVariants.{Call as Called};
 ghost use Rattle.spec_world.specs.PlainWorld.{nodes_step, opened_world};
 ghost use Rattle.spec_world.specs.Admitted.{is_admitted_at};
 ghost use Rattle.w_world.specs.Room.{HaveRoom};
 
-use it_types::{Conf, Ctx, NoMemory, NodeId, Out, Req, TaskId};
-use n_node::Node;
+use it_types::{Conf, Ctx, NoMemory, NodeId, Out, Req};
+use n_node::{Node, NodeEv};
 use std::alloc::Global;
 use std::marker::Model;
 
@@ -22,7 +22,7 @@ pub struct Nodes {
 impl Model for Nodes {
     ghost Value = { Rattle.spec_world.specs.PlainWorld.Nodes };
 
-    ghost view = { λ n. record { first = n.first; second = n.second } };
+    ghost view = { λ n. record { first = n.first.plain; second = n.second.plain } };
 }
 
 impl Nodes {
@@ -38,89 +38,49 @@ impl Nodes {
     }
 
     pub fn first(&self) -> &Node
-        ensures { result.now ≡ self.now.first }
+        ensures { result.now.plain ≡ self.now.first }
     {
         &self.first
     }
 
     pub fn second(&self) -> &Node
-        ensures { result.now ≡ self.now.second }
+        ensures { result.now.plain ≡ self.now.second }
     {
         &self.second
     }
 
-    /// Whether a call is admitted at the node.
+    /// Whether the event is admitted at the node.
+    pub fn admits(&self, id: NodeId, ev: &NodeEv) -> bool
+        ensures { result ≡ is_admitted_at self.now id ev.now }
+    {
+        match id.0 {
+            0 => self.first.admits(ev),
+            1 => self.second.admits(ev),
+            _ => false,
+        }
+    }
+
+    /// Whether a call is admitted at the node, whatever it asks for.
     pub fn admits_call(&self, id: NodeId, ctx: Ctx) -> bool
         ensures { (request : ARequest) → result ≡ is_admitted_at self.now id (Called ctx request) }
     {
-        match id.0 {
-            0 => self.first.admits_call(ctx),
-            1 => self.second.admits_call(ctx),
-            _ => false,
-        }
+        self.admits(id, &NodeEv::Call(ctx, Req::ExtTsk))
     }
 
-    /// Whether the task's return is admitted at the node.
-    pub fn admits_return(&self, id: NodeId, task: TaskId) -> bool
-        ensures { result ≡ is_admitted_at self.now id (Returned task) }
-    {
-        match id.0 {
-            0 => self.first.admits_return(task),
-            1 => self.second.admits_return(task),
-            _ => false,
-        }
-    }
-
-    /// A call at the node, which admits it. Without memory the nodes are not used again.
-    pub fn call(
-        &mut self,
-        alloc: Global,
-        id: NodeId,
-        ctx: Ctx,
-        request: &Req,
-    ) -> Result<Out, NoMemory>
-        requires admitted { is_admitted_at self.old id (Called ctx request.now) ≡ true }
+    /// The event at the node, which admits it. Without memory the nodes are not used again.
+    pub fn step(&mut self, alloc: Global, id: NodeId, ev: NodeEv) -> Result<Out, NoMemory>
+        requires admitted { is_admitted_at self.old id ev ≡ true }
         requires room { HaveRoom self.old }
-        ensures { IfOk result (λ o. nodes_step self.old id (Called ctx request.now) ≡ (self.new, o)) }
+        ensures { IfOk result (λ o. nodes_step self.old id ev ≡ (self.new, o)) }
     {
-        if id.0 == 0 {
-            self.first.call(alloc, ctx, request)
+        let stepped = if id.0 == 0 {
+            self.first.step(alloc, ev)
         } else {
-            self.second.call(alloc, ctx, request)
-        }
-    }
-
-    /// A task of the node takes the answer that it holds.
-    pub fn return_from(&mut self, alloc: Global, id: NodeId, task: TaskId) -> Out
-        ensures { nodes_step self.old id (Returned task) ≡ (self.new, result) }
-    {
-        if id.0 == 0 {
-            self.first.return_from(alloc, task)
-        } else {
-            self.second.return_from(alloc, task)
-        }
-    }
-
-    /// A tick of the node's clock. Without memory the nodes are not used again.
-    pub fn tick(&mut self, alloc: Global, id: NodeId) -> Result<Out, NoMemory>
-        requires { HaveRoom self.old }
-        ensures { IfOk result (λ o. nodes_step self.old id Ticked ≡ (self.new, o)) }
-    {
-        if id.0 == 0 {
-            self.first.tick(alloc)
-        } else {
-            self.second.tick(alloc)
-        }
-    }
-
-    /// The bytes of a packet reach the node. Without memory the nodes are not used again.
-    pub fn arrive(&mut self, alloc: Global, id: NodeId, bytes: &[u8]) -> Result<Out, NoMemory>
-        ensures { IfOk result (λ o. nodes_step self.old id (Arrived bytes.now) ≡ (self.new, o)) }
-    {
-        if id.0 == 0 {
-            self.first.arrive(alloc, bytes)
-        } else {
-            self.second.arrive(alloc, bytes)
+            self.second.step(alloc, ev)
+        };
+        match stepped {
+            Ok(out) => Ok(out),
+            Err(_) => Err(NoMemory),
         }
     }
 }

@@ -1,15 +1,16 @@
 //! What an event comes to at its node.
 
 ghost use Rattle.std.specs.Prelude.{◌≡◌, true, IfOk};
-ghost use Rattle.spec_world.specs.Admitted.{is_admitted};
-ghost use Rattle.spec_world.specs.PlainWorld.{peer_of};
+ghost use Rattle.spec_world.specs.Admitted.{is_admitted, is_admitted_at};
+ghost use Rattle.spec_world.specs.PlainWorld.{nodes_step, peer_of};
 ghost use Rattle.w_world.specs.Room.{HaveRoom};
 ghost use Rattle.w_world.specs.Sending.{world_in};
 ghost use Rattle.w_world.specs.Takes.{Takes, nothing};
 
 use crate::nodes::Nodes;
 use crate::sent::{Sent, bytes_in};
-use it_types::{Ans, Entry, Event, List, NoMemory, NodeId, Out, PackNo};
+use it_types::{Ans, Bytes, Entry, Event, List, NoMemory, NodeId, Out, PackNo};
+use n_node::NodeEv;
 use std::alloc::Global;
 
 /// What an event gives, and the node at which it happened, by which its packets go out.
@@ -37,6 +38,16 @@ fn peer_of(id: NodeId) -> NodeId
     if id.0 == 0 { NodeId(1) } else { NodeId(0) }
 }
 
+/// The event at the node, which admits it. Without memory the nodes are not used again.
+fn at_node(alloc: Global, nodes: &mut Nodes, id: NodeId, event: NodeEv) -> Result<Taken, NoMemory>
+    requires admitted { is_admitted_at nodes.old id event ≡ true }
+    requires room { HaveRoom nodes.old }
+    ensures { IfOk result (λ t. (t.by ≡ id) × (nodes_step nodes.old id event ≡ (nodes.new, t.out))) }
+{
+    let out = nodes.step(alloc, id, event)?;
+    Ok(Taken { by: id, out })
+}
+
 /// The packet reaches the node that did not send it. Without memory the nodes are not used again.
 fn deliver(
     alloc: Global,
@@ -45,13 +56,13 @@ fn deliver(
     sent: &[Sent],
     number: PackNo,
 ) -> Result<Taken, NoMemory>
+    requires room { HaveRoom nodes.old }
     ensures { IfOk result (λ t. Takes (world_in nodes.old log.now sent.now) (Event.Deliver number) nodes.new t.by t.out) }
 {
     match sent.get(number.0 as usize) {
         Some(packet) => {
-            let by = peer_of(packet.by);
-            let out = nodes.arrive(alloc, by, bytes_in(log, *packet))?;
-            Ok(Taken { by, out })
+            let bytes = Bytes::of(alloc, bytes_in(log, *packet))?;
+            at_node(alloc, nodes, peer_of(packet.by), NodeEv::Arrive(bytes))
         }
         None => Ok(Taken {
             by: NodeId(0),
@@ -74,19 +85,15 @@ pub fn take(
 {
     match event {
         Event::Call(id, ctx, request) => {
-            let out = nodes.call(alloc, *id, *ctx, request)?;
-            Ok(Taken { by: *id, out })
+            let request = request.copy(alloc)?;
+            at_node(alloc, nodes, *id, NodeEv::Call(*ctx, request))
         }
-        Event::Return(id, task) => {
-            let out = nodes.return_from(alloc, *id, *task);
-            Ok(Taken { by: *id, out })
-        }
-        Event::Tick(id) => {
-            let out = nodes.tick(alloc, *id)?;
-            Ok(Taken { by: *id, out })
-        }
+        Event::Return(id, task) => at_node(alloc, nodes, *id, NodeEv::Return(*task)),
+        Event::Begin(id) => at_node(alloc, nodes, *id, NodeEv::Begin),
+        Event::Finish(id) => at_node(alloc, nodes, *id, NodeEv::Finish),
+        Event::Tick(id) => at_node(alloc, nodes, *id, NodeEv::Tick),
         Event::Deliver(number) => deliver(alloc, nodes, log, sent, *number),
-        Event::Begin(_) | Event::Finish(_) | Event::Stop => Ok(Taken {
+        Event::Stop => Ok(Taken {
             by: NodeId(0),
             out: nothing(alloc),
         }),

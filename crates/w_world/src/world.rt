@@ -14,7 +14,7 @@ use crate::sent::{Sent, note_packets};
 use crate::sizes::entry_size;
 use crate::taking::{Taken, take};
 use it_types::{Conf, Entry, Event, List, NoMemory, NodeId, Out};
-use n_node::Node;
+use n_node::{Node, NodeEv};
 use spec_world::WErr;
 use std::alloc::Global;
 use std::marker::Model;
@@ -129,7 +129,9 @@ impl World {
     /// - `Long`: the history has 1,000,000 entries or more, or 268,435,456 bytes of data or more;
     /// - `NoPacket`: the packet that is to be delivered was not sent;
     /// - `NotAdmitted`: there is no such node; the caller isn't the task in the RUNNING state, or holds an answer that it
-    ///   hasn't taken; the task that returns doesn't run or holds none; or a handler is to begin or end.
+    ///   hasn't taken; the task that returns doesn't run or holds none; a task calls or returns while a handler of the node is
+    ///   due or has begun; a handler is to begin where none is due or one has begun; or a handler calls or is to end where
+    ///   none has begun.
     ///
     /// With `NoMemory` memory ran out in this step: the history is that of the steps before, and the world has ended.
     pub fn step(&mut self, alloc: Global, ev: Event) -> Result<(), WErr>
@@ -208,11 +210,12 @@ impl World {
     {
         match ev {
             Event::Call(id, ctx, _) => self.nodes.admits_call(*id, *ctx),
-            Event::Return(id, task) => self.nodes.admits_return(*id, *task),
-            Event::Tick(id) => id.0 <= 1,
+            Event::Return(id, task) => self.nodes.admits(*id, &NodeEv::Return(*task)),
+            Event::Begin(id) => self.nodes.admits(*id, &NodeEv::Begin),
+            Event::Finish(id) => self.nodes.admits(*id, &NodeEv::Finish),
+            Event::Tick(id) => self.nodes.admits(*id, &NodeEv::Tick),
             Event::Deliver(number) => number.0 < self.packets,
             Event::Stop => true,
-            Event::Begin(_) | Event::Finish(_) => false,
         }
     }
 
@@ -269,7 +272,7 @@ impl World {
     /// The node 0 or 1; none under another id, and none where memory ran out in a step.
     pub fn node(&self, id: NodeId) -> Option<&Node>
         ensures some { IsSome result ↔ ((id.0 ≤ 1) × (self.now.ended ≡ false)) }
-        ensures node { IfSome result (λ n. n.now ≡ node_at (world_of self.now).nodes id) }
+        ensures node { IfSome result (λ n. n.now.plain ≡ node_at (world_of self.now).nodes id) }
     {
         if self.ended {
             return None;
