@@ -1,5 +1,5 @@
 -- The schedule: which event of a script is next. It is this project's own. Handlers come first, before packets and tasks. No
--- packet is lost, doubled or delayed: each is delivered once, in the order of sending, as soon as it is sent and no handler is due.
+-- packet is lost, doubled or delayed: each is delivered once, in the order of sending, as soon as no handler goes first.
 use Rattle.std.specs.Prelude.{ℕ, ◌+◌, Bool, false, not, ◌&&◌, ◌||◌, List, length, Some, None, nat_le, nat_lt, ◌==◌, if◌then◌else◌, slice_index, replicate}
 use Rattle.std.specs.List.{list_any}
 use Rattle.it_types.specs.declared.id.NodeId.{NodeId}
