@@ -12,6 +12,6 @@ mod running;
 pub use agreement::parts_agree_in_both_nodes;
 pub use at_rest::no_call_waits_too_long;
 pub use end_points::end_points_are_kept_in_both_nodes;
-pub use handlers::cyclic_handlers_are_due_once;
+pub use handlers::cyclic_handlers_are_due_once_in_both_nodes;
 pub use packets::packets_are_those_of_the_entries;
-pub use running::{runnable_tasks_are_exact, running_tasks_wait_for_nothing};
+pub use running::{runnable_tasks_are_exact, running_tasks_wait_for_nothing_in_both_nodes};

@@ -16,6 +16,6 @@ pub fn runnable_tasks_are_exact()
 /// Over every list of events, of which those that aren't admitted change nothing, in either node the task that runs waits for no
 /// call, of the kernel or of the network part. A call of which a routine is told may wait that it made before.
 #[tactic(auto, using(crate::proofs::Both::free_from_opening))]
-pub fn running_tasks_wait_for_nothing()
+pub fn running_tasks_wait_for_nothing_in_both_nodes()
     ensures { (conf : Conf) (events : List Event) → CanOpen conf → RunFreeAlong (opened_world conf) events }
 {}
