@@ -1,0 +1,6 @@
+//! Laws of the calls of a node, over every list of events. Each is the contract of a function without a body of its own.
+#![tactic(auto)]
+
+mod once;
+
+pub use once::each_call_ends_once;
