@@ -5,3 +5,4 @@ pub mod NetPackets
 pub mod Growth
 pub mod Counts
 pub mod Sending
+pub mod OnceInBoth

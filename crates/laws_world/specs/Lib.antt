@@ -2,3 +2,4 @@ pub mod AtRest
 pub mod Taken
 pub mod BothNodes
 pub mod Packets
+pub mod OnceInBoth

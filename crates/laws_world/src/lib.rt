@@ -6,6 +6,7 @@ mod agreement;
 mod at_rest;
 mod end_points;
 mod handlers;
+mod once;
 mod packets;
 mod running;
 
@@ -13,5 +14,6 @@ pub use agreement::parts_agree_in_both_nodes;
 pub use at_rest::no_call_waits_too_long;
 pub use end_points::end_points_are_kept_in_both_nodes;
 pub use handlers::cyclic_handlers_are_due_once_in_both_nodes;
+pub use once::each_call_of_both_nodes_ends_once;
 pub use packets::packets_are_those_of_the_entries;
 pub use running::{runnable_tasks_are_exact, running_tasks_wait_for_nothing_in_both_nodes};
