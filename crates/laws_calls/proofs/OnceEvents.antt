@@ -154,50 +154,63 @@ quiet_numbered : (n : PlainNode) → IsNumbered n answers.Quiet
 quiet_numbered n = record { next = λ number. inl refl }
 
 module _ (n : PlainNode) (log : List NodeEntry) (ctx : Ctx) (request : Req) (b : Books n log) (h : Holds n) (calls : Calls n.kernel ctx) (none : HoldsNone n.held ctx) where
+  abbrev Will : Ans → ℕ → ℕ → Type 0
+  Will a = WillBeOpen log (Call ctx request) a
+
+  -- how often a call of the number waits or ends at most, with this answer
+  abbrev most : Ans → ℕ → ℕ
+  most a number = pending number n + one_if (accepts number a)
+
+  -- what the call is answered
+  abbrev given : Outcome → Ans
+  given o = kernel_answer (n.calls + 1) o.answer
+
+  abbrev net_given : UdpOutcome → Ans
+  net_given o = shown_answer (next_number n) o.answer
+
   -- what is open beside the caller's new call
-  old_waits : (a : Ans) → OfWaits (WillBeOpen log (Call ctx request) a) n.kernel.waits
-  old_waits a = all_both (λ w. IsOpen log w.task.0 w.call.0) (IsOfAnother (caller ctx).0) (λ w. WillBeOpen log (Call ctx request) a w.task.0 w.call.0) n.kernel.waits (λ w. still w.task.0 w.call.0) b.waits (all_of_others (caller ctx).0 n.kernel.waits (idle n ctx h calls))
+  old_waits : (a : Ans) → OfWaits (Will a) n.kernel.waits
+  old_waits a = all_both (λ w. IsOpen log w.task.0 w.call.0) (IsOfAnother (caller ctx).0) (λ w. Will a w.task.0 w.call.0) n.kernel.waits (λ w. still w.task.0 w.call.0) b.waits (all_of_others (caller ctx).0 n.kernel.waits (idle n ctx h calls))
     where
-      still : (task call : ℕ) → IsOpen log task call → task ≢ (caller ctx).0 → WillBeOpen log (Call ctx request) a task call
+      still : (task call : ℕ) → IsOpen log task call → task ≢ (caller ctx).0 → Will a task call
       still task call (inl z) ne = inl z
       still task call (inr o) ne = inr (rw (asked_other ctx request a task ne) o)
 
-  old_calls : (a : Ans) → OfCalls (WillBeOpen log (Call ctx request) a) n.net.pend.calls
-  old_calls a = calls_told (WillBeOpen log (Call ctx request) a) n.kernel.waits n.net.pend.calls (λ call. inl refl) (old_waits a) (λ number id. omega (arith, h.sound.same number id))
+  old_calls : (a : Ans) → OfCalls (Will a) n.net.pend.calls
+  old_calls a = calls_told (Will a) n.kernel.waits n.net.pend.calls (λ call. inl refl) (old_waits a) (λ number id. omega (arith, h.sound.same number id))
 
   -- a call of the kernel
   kernel_called_keeps : (k : KReq) → Books (kernel_called n ctx k).0 (log ++ record { event = Call ctx request; out = (kernel_called n ctx k).1 } ∷ [])
   unfolding kernel_called after_kernel
   kernel_called_keeps k =
       let o : Outcome = call n.kernel ctx k (next_number n) in
-      let a : Ans = kernel_answer (n.calls + 1) o.answer in
+      let a : Ans = given o in
       let p : Progress = after_kernel (beginning n) o in
-      let P : ℕ → ℕ → Type 0 = WillBeOpen log (Call ctx request) a in
-      let most : ℕ → ℕ = λ number. pending number n + one_if (accepts number a) in
+      let P : ℕ → ℕ → Type 0 = Will a in
       let taken = kernel_taken (beginning n) o n.calls (n.calls + o.kernel.last_call) h.sound (omega arith) (omega arith) tt (call_moves n.kernel ctx k (next_number n) h.sound.stands calls) in
       done_keeps n log (Call ctx request) a o.gone o.begun p b (kernel_numbered n o.answer) (λ task. refl) (unasked n.held ctx request a none)
       (omega (arith, taken.fewer o.gone.0, gone_waits_not n ctx h calls k (next_number n)))
       (going o (call_drawn P n.kernel ctx k (next_number n) h.sound.stands calls))
     where
-      its : (w : WaitingCall) → w.call ≡ next_number n → w.task ≡ caller ctx → WillBeOpen log (Call ctx request) (answers.Pends (next_number n)) w.task.0 w.call.0
+      its : (w : WaitingCall) → w.call ≡ next_number n → w.task ≡ caller ctx → Will (answers.Pends (next_number n)) w.task.0 w.call.0
       its w number task =
-          subst (λ (t : TaskId). WillBeOpen log (Call ctx request) (answers.Pends (next_number n)) t.0 w.call.0) (sym task)
-          (subst (λ (c : CallNo). WillBeOpen log (Call ctx request) (answers.Pends (next_number n)) (caller ctx).0 c.0) (sym number) (opens log ctx request (next_number n)))
+          subst (λ (t : TaskId). Will (answers.Pends (next_number n)) t.0 w.call.0) (sym task)
+          (subst (λ (c : CallNo). Will (answers.Pends (next_number n)) (caller ctx).0 c.0) (sym number) (opens log ctx request (next_number n)))
 
-      going : (o : Outcome) → Called (WillBeOpen log (Call ctx request) (kernel_answer (n.calls + 1) o.answer)) n.kernel ctx (next_number n) o
-          → Going (λ number. pending number n + one_if (accepts number (kernel_answer (n.calls + 1) o.answer))) (WillBeOpen log (Call ctx request) (kernel_answer (n.calls + 1) o.answer)) [] (after_kernel (beginning n) o)
+      going : (o : Outcome) → Called (Will (given o)) n.kernel ctx (next_number n) o
+          → Going (most (given o)) (Will (given o)) [] (after_kernel (beginning n) o)
       going o (Called.at_once d) =
-          let a : Ans = kernel_answer (n.calls + 1) o.answer in
-          after_kernel_going (WillBeOpen log (Call ctx request) a) (λ number. pending number n + one_if (accepts number a)) (beginning n) o
+          let a : Ans = given o in
+          after_kernel_going (Will a) (most a) (beginning n) o
           (record { count = λ number. omega arith; waits = old_waits a; calls = old_calls a; ends = tt; told = tt; marks = λ task. refl }) d
       going o (Called.later w number task inside waits d) =
-          let a : Ans = kernel_answer (n.calls + 1) o.answer in
+          let a : Ans = given o in
           let is : a ≡ answers.Pends (next_number n) = ap (kernel_answer (n.calls + 1)) waits in
-          let P : ℕ → ℕ → Type 0 = WillBeOpen log (Call ctx request) a in
-          after_kernel_going P (λ x. pending x n + one_if (accepts x a)) (record (beginning n) { kernel = record n.kernel { waits = n.kernel.waits ++ w ∷ [] } }) o
+          let P : ℕ → ℕ → Type 0 = Will a in
+          after_kernel_going P (most a) (record (beginning n) { kernel = record n.kernel { waits = n.kernel.waits ++ w ∷ [] } }) o
           (record {
             count = λ x. omega (arith, times_end (is_own x) n.kernel.waits w, own w (n.calls + 1) x inside (ap (λ (c : CallNo). c.0) number), ap (λ y. one_if (accepts x y)) is);
-            waits = all_end (λ v. P v.task.0 v.call.0) n.kernel.waits w (old_waits a) (subst (λ y. WillBeOpen log (Call ctx request) y w.task.0 w.call.0) (sym is) (its w number task));
+            waits = all_end (λ v. P v.task.0 v.call.0) n.kernel.waits w (old_waits a) (subst (λ y. Will y w.task.0 w.call.0) (sym is) (its w number task));
             calls = old_calls a;
             ends = tt;
             told = tt;
@@ -240,36 +253,33 @@ module _ (n : PlainNode) (log : List NodeEntry) (ctx : Ctx) (request : Req) (b :
   unfolding network_called
   network_called_keeps after =
       let o : UdpOutcome = udp_call n.net ctx request (next_number n) in
-      let a : Ans = shown_answer (next_number n) o.answer in
+      let a : Ans = net_given o in
       let p : Progress = after_net (record (beginning n) { kernel = blocked_where o.answer n.kernel ctx request (next_number n) }) o in
       done_keeps n log (Call ctx request) a nobody nobody p b (net_numbered n o.answer) (λ task. refl) (unasked n.held ctx request a none) (nobody_waits p.kernel after.sound.stands)
-      (going o (net_call_drawn (WillBeOpen log (Call ctx request) a) n.net ctx request (next_number n)))
+      (going o (net_call_drawn (Will a) n.net ctx request (next_number n)))
     where
-      going : (o : UdpOutcome) → NetCalled (WillBeOpen log (Call ctx request) (shown_answer (next_number n) o.answer)) n.net.pend.calls ctx (next_number n) o
-          → Going (λ x. pending x n + one_if (accepts x (shown_answer (next_number n) o.answer))) (WillBeOpen log (Call ctx request) (shown_answer (next_number n) o.answer)) [] (after_net (record (beginning n) { kernel = blocked_where o.answer n.kernel ctx request (next_number n) }) o)
+      going : (o : UdpOutcome) → NetCalled (Will (net_given o)) n.net.pend.calls ctx (next_number n) o
+          → Going (most (net_given o)) (Will (net_given o)) [] (after_net (record (beginning n) { kernel = blocked_where o.answer n.kernel ctx request (next_number n) }) o)
       going o called = of called
         where
           a : Ans
-          a = shown_answer (next_number n) o.answer
+          a = net_given o
 
           P : ℕ → ℕ → Type 0
-          P = WillBeOpen log (Call ctx request) a
-
-          most : ℕ → ℕ
-          most x = pending x n + one_if (accepts x a)
+          P = Will a
 
           start : Progress
           start = record (beginning n) { kernel = blocked_where o.answer n.kernel ctx request (next_number n) }
 
           new : o.answer ≡ net_answers.Pends → P (caller ctx).0 (n.calls + 1)
-          new is = subst (λ y. WillBeOpen log (Call ctx request) y (caller ctx).0 (n.calls + 1)) (sym (ap (shown_answer (next_number n)) is)) (opens log ctx request (next_number n))
+          new is = subst (λ y. Will y (caller ctx).0 (n.calls + 1)) (sym (ap (shown_answer (next_number n)) is)) (opens log ctx request (next_number n))
 
           ws : OfWaits P start.kernel.waits
           ws = blocked_waits P o.answer (old_waits a) new
 
-          of : NetCalled P n.net.pend.calls ctx (next_number n) o → Going most P [] (after_net start o)
-          of (NetCalled.at_once d) = after_net_going P most [] start o (record { count = λ x. omega (arith, blocked_own o.answer x); waits = ws; calls = old_calls a; ends = tt; told = tt; marks = λ task. refl }) d
-          of (NetCalled.later c number told d) = after_net_going P most [] (record start { net = record n.net { pend = record n.net.pend { calls = n.net.pend.calls ++ c ∷ [] } } }) o (record {
+          of : NetCalled P n.net.pend.calls ctx (next_number n) o → Going (most a) P [] (after_net start o)
+          of (NetCalled.at_once d) = after_net_going P (most a) [] start o (record { count = λ x. omega (arith, blocked_own o.answer x); waits = ws; calls = old_calls a; ends = tt; told = tt; marks = λ task. refl }) d
+          of (NetCalled.later c number told d) = after_net_going P (most a) [] (record start { net = record n.net { pend = record n.net.pend { calls = n.net.pend.calls ++ c ∷ [] } } }) o (record {
             count = λ x. omega (arith, blocked_own o.answer x, times_end (is_net_call x) n.net.pend.calls c, ap (λ (y : CallNo). one_if (y.0 == x)) number, accepted_one o.answer c.who x told);
             waits = ws;
             calls = all_end (λ y. P (told_by y.who) y.call.0) n.net.pend.calls c (old_calls a) (rw number (told_opens P o.answer c.who (n.calls + 1) (λ call. inl refl) told new));
