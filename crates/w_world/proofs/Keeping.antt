@@ -97,6 +97,7 @@ module _ (conf : Conf) (nodes : Nodes) (log : List Entry) (sent : List Sent) (pa
         → size_after ≡ capped (size + capped (entry_size (entry_of event out)))
         → Kept conf nodes_after log_after sent_after count size_after false
     kept_step log_after sent_after count size_after l s n b = rw (l, s) (record {
+      opens = kept.opens;
       run = run_after;
       count = n ∙ ap length s ∙ count_after conf nodes_after _ _ on_after;
       bytes = bytes_after size_after b;

@@ -8,6 +8,7 @@ ghost use Rattle.spec_world.specs.Admitted.{is_admitted};
 ghost use Rattle.spec_world.specs.Sizes.{is_full};
 ghost use Rattle.spec_world.specs.History.{IsRun, ends_with_stop, is_unsent, opened_history, refusal, stepped, world_of};
 ghost use Rattle.laws_world.specs.AtRest.{LogRests};
+ghost use Rattle.laws_world.specs.OnceInBoth.{LogOnce};
 
 use crate::nodes::Nodes;
 use crate::sent::{Sent, note_packets};
@@ -230,6 +231,10 @@ impl World {
         // In neither node does a call wait that is ready, or whose deadline is at or before now, or that names an end point
         // which isn't there; and at most one waits in each place, after any of its entries.
         ensures rests { LogRests (opened_world self.now.conf) result.now }
+
+        // In either node each number accepts one call at most, a call ends at most once, in the entry that accepted it or a later one, and
+        // each return gives the end of the call that its task made last, from which no other returns.
+        ensures once { LogOnce result.now }
     {
         self.log.as_slice()
     }
