@@ -1,4 +1,4 @@
--- Over every list of events of a node each end has a cause.
+-- Over every list of events of a node each end has a cause, and no end has two.
 use Rattle.std.proofs.Common.{◌≡◌, ℕ, Bool, true, false, List, [], ◌∷◌, refl}
 use Rattle.it_types.specs.declared.id.ObjId.{ObjId}
 use Rattle.it_types.specs.declared.conf.KConf.{KConf}
@@ -8,9 +8,10 @@ use Rattle.spec_node.specs.PlainNode.{PlainNode, opened_node}
 use Rattle.spec_node.specs.NodeStep.{node_step}
 use Rattle.spec_node.specs.Admitted.{is_admitted}
 use Rattle.laws_node.specs.Taken.{taken}
-use Rattle.laws_node.proofs.Agreeing.{Good, step_good, opening_good}
-use Rattle.laws_calls.specs.Cause.{EndsAreCaused, EachTaken}
+use Rattle.laws_node.proofs.Agreeing.{Good, agree, step_good, opening_good}
+use Rattle.laws_calls.specs.Cause.{EndsAreCaused, CausesAreOne, EachTaken}
 use Rattle.laws_calls.proofs.CauseSome.{ends_caused}
+use Rattle.laws_calls.proofs.CauseOne.{one_cause}
 
 taken_good : (n : PlainNode) (event : NodeEv) → Good n → Good (taken n event)
 taken_good n event g = of (is_admitted n event) (λ e. step_good n event e g)
@@ -29,3 +30,6 @@ good_caused n event g e = ends_caused n event e g.holds.sound.stands
 
 pub caused_along : (conf : KConf) (addr : ℕ) (routines : List ObjId) (events : List NodeEv) → IsDeclarable conf → EachTaken EndsAreCaused (opened_node conf addr routines) events
 caused_along conf addr routines events can = each_along EndsAreCaused good_caused (opened_node conf addr routines) events (opening_good conf addr routines can)
+
+pub one_along : (conf : KConf) (addr : ℕ) (routines : List ObjId) (events : List NodeEv) → IsDeclarable conf → EachTaken CausesAreOne (opened_node conf addr routines) events
+one_along conf addr routines events can = each_along CausesAreOne (λ n event g e. one_cause n event (agree n g)) (opened_node conf addr routines) events (opening_good conf addr routines can)
