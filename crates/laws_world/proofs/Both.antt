@@ -51,7 +51,7 @@ along P Q kept then w (event ∷ events) h =
 
 -- ---- what admitted events keep
 
-opened_good : (conf : Conf) → CanOpen conf → OfBoth Good (opened_world conf)
+pub opened_good : (conf : Conf) → CanOpen conf → OfBoth Good (opened_world conf)
 opened_good conf can = record {
   first = opening_good (kernel_conf (first_conf conf)) (first_conf conf).addr (first_conf conf).cbrs can.first;
   second = opening_good (kernel_conf (second_conf conf)) (second_conf conf).addr (second_conf conf).cbrs can.second;

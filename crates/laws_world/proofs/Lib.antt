@@ -6,3 +6,4 @@ pub mod Growth
 pub mod Counts
 pub mod Sending
 pub mod OnceInBoth
+pub mod CauseInBoth

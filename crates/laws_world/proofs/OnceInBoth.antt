@@ -27,13 +27,13 @@ use Rattle.laws_world.proofs.Sending.{step_sends}
 -- ---- where an event happens
 
 -- it is this event of its node, which is one of both and admits it
-record HappensAt (w : PlainWorld) (event : Event) (id : NodeId) (its : NodeEv) : Type 0 where
-  stepped : step w event ≡ step_at w id its event
-  admitted : node.is_admitted (node_at w.nodes id) its ≡ true
-  within : id.0 ≤ 1
+pub record HappensAt (w : PlainWorld) (event : Event) (id : NodeId) (its : NodeEv) : Type 0 where
+  pub stepped : step w event ≡ step_at w id its event
+  pub admitted : node.is_admitted (node_at w.nodes id) its ≡ true
+  pub within : id.0 ≤ 1
 
-data Happens (w : PlainWorld) (event : Event) (id : NodeId) : Option NodeEv → Type 0 where
-  nowhere : (step w event).0.nodes ≡ w.nodes → Happens w event id None
+pub data Happens (w : PlainWorld) (event : Event) (id : NodeId) : Option NodeEv → Type 0 where
+  nowhere : (step w event).0.nodes ≡ w.nodes → (step w event).1.ends ≡ [] → Happens w event id None
   here : (its : NodeEv) → HappensAt w event id its → Happens w event id (Some its)
 
 admitted_at : (nodes : Nodes) (id : NodeId) (event : NodeEv) → is_admitted_at nodes id event ≡ true → (node.is_admitted (node_at nodes id) event ≡ true) × (id.0 ≤ 1)
@@ -45,7 +45,7 @@ peer_within id = elim (cases_Bool (id.0 == 0)) [
   | inr t ↦ rw t (omega arith)
 ]
 
-happens : (w : PlainWorld) (event : Event) → is_admitted w event ≡ true → Happens w event (node_of w.packets event) (node_event w.packets event)
+pub happens : (w : PlainWorld) (event : Event) → is_admitted w event ≡ true → Happens w event (node_of w.packets event) (node_event w.packets event)
 unfolding step
 happens w (events.Call id ctx request) e = let can = admitted_at w.nodes id (Call ctx request) e in Happens.here (Call ctx request) (record { stepped = refl; admitted = can.0; within = can.1 })
 happens w (events.Return id task) e = let can = admitted_at w.nodes id (Return task) e in Happens.here (Return task) (record { stepped = refl; admitted = can.0; within = can.1 })
@@ -55,9 +55,9 @@ happens w (events.Tick id) e = let can = admitted_at w.nodes id Tick e in Happen
 happens w (events.Deliver number) e = of (slice_get w.packets number.0) refl
   where
     of : (found : Option Packet) → slice_get w.packets number.0 ≡ found → Happens w (events.Deliver number) (node_of w.packets (events.Deliver number)) (arrival found)
-    of None is = Happens.nowhere (rw is refl)
+    of None is = Happens.nowhere (rw is refl) (rw is refl)
     of (Some packet) is = rw is (Happens.here (Arrive packet.bytes) (record { stepped = rw is refl; admitted = refl; within = peer_within packet.sender }))
-happens w events.Stop e = Happens.nowhere refl
+happens w events.Stop e = Happens.nowhere refl refl
 
 -- ---- the node, and the other
 
@@ -92,7 +92,7 @@ one_entry : (w : PlainWorld) (e : Entry) (id at : NodeId) (o : Option NodeEv) (r
     → Happens w e.ev at o
     → rest ≡ log_of (node_at (step w e.ev).0.nodes id) (events_of rest)
     → with_entry (at.0 == id.0) o (out_of e) rest ≡ log_of (node_at w.nodes id) (events_of (with_entry (at.0 == id.0) o (out_of e) rest))
-one_entry w e id at _ rest low given (Happens.nowhere same) later = later ∙ ap (λ (nodes : Nodes). log_of (node_at nodes id) (events_of rest)) same
+one_entry w e id at _ rest low given (Happens.nowhere same none) later = later ∙ ap (λ (nodes : Nodes). log_of (node_at nodes id) (events_of rest)) same
 one_entry w e id at _ rest low given (Happens.here its h) later = of (at.0 == id.0) refl
   where
     n : PlainNode

@@ -3,3 +3,4 @@ pub mod Taken
 pub mod BothNodes
 pub mod Packets
 pub mod OnceInBoth
+pub mod CauseInBoth

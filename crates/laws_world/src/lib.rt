@@ -4,6 +4,7 @@
 
 mod agreement;
 mod at_rest;
+mod cause;
 mod end_points;
 mod handlers;
 mod once;
@@ -12,6 +13,7 @@ mod running;
 
 pub use agreement::parts_agree_in_both_nodes;
 pub use at_rest::no_call_waits_too_long;
+pub use cause::each_end_of_both_nodes_has_one_cause;
 pub use end_points::end_points_are_kept_in_both_nodes;
 pub use handlers::cyclic_handlers_are_due_once_in_both_nodes;
 pub use once::each_call_of_both_nodes_ends_once;
