@@ -25,7 +25,10 @@ unfolding unblocked
 woken_among k (whos.Callback t cbr) w m = m
 woken_among k (whos.Task t) w m = of (take_first (is_outside_of t) k.waits) refl m
   where
-    of : (found : Option (WaitingCall × List WaitingCall)) → take_first (is_outside_of t) k.waits ≡ found → IsAmong w (unblocked_at k found).0.waits → IsAmong w k.waits
+    of : (found : Option (WaitingCall × List WaitingCall))
+        → take_first (is_outside_of t) k.waits ≡ found
+        → IsAmong w (unblocked_at k found).0.waits
+        → IsAmong w k.waits
     of None e m = m
     of (Some z) e m = others_among (is_outside_of t) k.waits z w e m
 
@@ -40,6 +43,9 @@ waited_in_net n s c NetAt.after_net_row m = m
 waited_in_net n _ c (NetAt.after_met s z at e) m = waited_in_net n s c at (others_among (is_ready s.udps) s.pend.calls z c e m)
 waited_in_net n _ c (NetAt.after_ended s kind e at ends outside) m = waited_in_net n s c at (of (numbered s.pend e.call) refl m)
   where
-    of : (found : Option (NetCall × List NetCall)) → numbered s.pend e.call ≡ found → IsAmong c (ended_where (no_endings s.pend) found e.code).pend.calls → IsAmong c s.pend.calls
+    of : (found : Option (NetCall × List NetCall))
+        → numbered s.pend e.call ≡ found
+        → IsAmong c (ended_where (no_endings s.pend) found e.code).pend.calls
+        → IsAmong c s.pend.calls
     of None f m = m
     of (Some z) f m = others_among (has_number e.call) s.pend.calls z c f m

@@ -37,7 +37,11 @@ record Delays (n : PlainNode) (call : CallNo) : Type 0 where
   reason : delay.reason ≡ reasons.Delay
   number : delay.call ≡ call
 
-over_in_kernel : (n : PlainNode) (kind : Kind) (e : KEnd) → KernelEnds n Tick kind e → kind ≡ Kind.TimedOut → IsSuccess e.code → Delays n e.call × (e.outside ≡ false)
+over_in_kernel : (n : PlainNode) (kind : Kind) (e : KEnd)
+    → KernelEnds n Tick kind e
+    → kind ≡ Kind.TimedOut
+    → IsSuccess e.code
+    → Delays n e.call × (e.outside ≡ false)
 over_in_kernel n _ _ (KernelEnds.is_timed_out k z tick at rest f) over s =
     let delay : z.0.reason ≡ reasons.Delay = delay_only z.0.reason s in
     (record { delay = z.0; among = waited_in_kernel n k z.0 at (found_among (is_next_past k.clock.now k.waits) k.waits z f); reason = delay; number = refl }, ap is_outside delay)
@@ -125,7 +129,13 @@ over_at n event _ _ (Cause.of_network _ _ (NetEnds.is_cancelled ctx cep func z i
 over_at n event _ _ (Cause.of_network _ _ (NetEnds.is_deleted ctx cep z its free f)) is = absurd cc
 
 -- an end isn't both by time and by what its call waits for
-not_both : (n : PlainNode) (event : NodeEv) (e : CallEnd) (a b : Kind) → PartsAgree n → Cause n event a e → Cause n event b e → a ≡ Kind.TimedOut → b ≡ Kind.Satisfied → ⊥
+not_both : (n : PlainNode) (event : NodeEv) (e : CallEnd) (a b : Kind)
+    → PartsAgree n
+    → Cause n event a e
+    → Cause n event b e
+    → a ≡ Kind.TimedOut
+    → b ≡ Kind.Satisfied
+    → ⊥
 not_both n event e a b agree x y over_time is_met =
     let tick : event ≡ Tick = over_at n event a e x over_time in
     let success : IsSuccess e.code = subst (λ kind. CodeOf kind e.code) is_met (code_of n event b e y) in

@@ -88,7 +88,9 @@ module _ (n : PlainNode) (event : NodeEv) where
   unfolding ended
   ended_caused s e at c outside = net.settled_caused n event (ended_at s e.call e.code) (record { at = NetAt.after_ended s c.0 e at c.1 outside; ends = of (numbered s.pend e.call) refl })
     where
-      of : (found : Option (NetCall × List NetCall)) → numbered s.pend e.call ≡ found → HaveNetCauses n event (ended_where (no_endings s.pend) found e.code).ends
+      of : (found : Option (NetCall × List NetCall))
+          → numbered s.pend e.call ≡ found
+          → HaveNetCauses n event (ended_where (no_endings s.pend) found e.code).ends
       of None f = tt
       of (Some z) f = ((c.0, NetEnds.is_ended s z c.0 e at c.1 outside f), tt)
 
@@ -107,7 +109,12 @@ module _ (n : PlainNode) (event : NodeEv) where
   after_ends_caused p [] g = g
   after_ends_caused p (e ∷ es) g = after_ends_caused (after_end p e) es (after_end_caused e es p g)
 
-  after_kernel_caused : (p : Progress) (o : Outcome) → NetAt n event p.net → AllByRecursion Has p.ends → KernelAt n event o.kernel → HaveKernelCauses n event o.ends → Caused [] (after_kernel p o)
+  after_kernel_caused : (p : Progress) (o : Outcome)
+      → NetAt n event p.net
+      → AllByRecursion Has p.ends
+      → KernelAt n event o.kernel
+      → HaveKernelCauses n event o.ends
+      → Caused [] (after_kernel p o)
   unfolding after_kernel
   after_kernel_caused p o net_at ends at still = after_ends_caused (record p { kernel = o.kernel }) o.ends (record { kernel_at = at; net_at = net_at; ends = ends; told_still = still })
 
@@ -180,7 +187,11 @@ module _ (n : PlainNode) where
 -- ---- calls
 
 module _ (n : PlainNode) (ctx : Ctx) (request : Req) where
-  kernel_called_caused : (call : KReq) → kernel_of request ≡ Some call → Calls n.kernel ctx → IsStanding n.kernel → AllByRecursion (HasCause n (Call ctx request)) (kernel_called n ctx call).1.ends
+  kernel_called_caused : (call : KReq)
+      → kernel_of request ≡ Some call
+      → Calls n.kernel ctx
+      → IsStanding n.kernel
+      → AllByRecursion (HasCause n (Call ctx request)) (kernel_called n ctx call).1.ends
   unfolding kernel_called kernel_rows.call
   kernel_called_caused call is calls stands =
       let event : NodeEv = Call ctx request in
@@ -203,7 +214,11 @@ module _ (n : PlainNode) (ctx : Ctx) (request : Req) where
       let settles = net.settled_caused n event r (record { at = net_at; ends = net.row_caused n ctx (next_number n) request }) in
       shown_caused n event _ (after_net_caused n event [] start o kernel_at tt tt settles).ends
 
-  called_caused : (call : Option KReq) → kernel_of request ≡ call → Calls n.kernel ctx → IsStanding n.kernel → AllByRecursion (HasCause n (Call ctx request)) (called_as n ctx request call).1.ends
+  called_caused : (call : Option KReq)
+      → kernel_of request ≡ call
+      → Calls n.kernel ctx
+      → IsStanding n.kernel
+      → AllByRecursion (HasCause n (Call ctx request)) (called_as n ctx request call).1.ends
   called_caused (Some call) is calls stands = kernel_called_caused call is calls stands
   called_caused None is calls stands = network_called_caused is
 

@@ -79,7 +79,10 @@ module _ (n : PlainNode) (event : NodeEv) where
         )
   ]
 
-  pub settled_caused : (o : Outcome) → KernelAt n event o.kernel → HaveKernelCauses n event o.ends → KernelAt n event (settled o).kernel × HaveKernelCauses n event (settled o).ends
+  pub settled_caused : (o : Outcome)
+      → KernelAt n event o.kernel
+      → HaveKernelCauses n event o.ends
+      → KernelAt n event (settled o).kernel × HaveKernelCauses n event (settled o).ends
   unfolding settled
   settled_caused o at a = settle_caused (length o.kernel.waits) o.kernel o.ends at a
 
@@ -96,7 +99,10 @@ module _ (n : PlainNode) (event : NodeEv) (ctx : Ctx) (call : KReq) (number : Ca
   abbrev Frees : TaskDone → Type 0
   Frees done = (t : TaskId) → done.did.freed ≡ Some t → is_waiting done.tasks t ≡ false → Releases n.kernel ctx call t
 
-  found_caused : (t : TaskId) (found : Option (WaitingCall × List WaitingCall)) → Releases n.kernel ctx call t → take_first (is_of t.0) n.kernel.waits ≡ found → HaveKernelCauses n event (released_end found)
+  found_caused : (t : TaskId) (found : Option (WaitingCall × List WaitingCall))
+      → Releases n.kernel ctx call t
+      → take_first (is_of t.0) n.kernel.waits ≡ found
+      → HaveKernelCauses n event (released_end found)
   found_caused t None h e = tt
   found_caused t (Some z) h e = ((Kind.Released, KernelEnds.is_released ctx call t z is h e), tt)
 
@@ -110,7 +116,9 @@ module _ (n : PlainNode) (event : NodeEv) (ctx : Ctx) (call : KReq) (number : Ca
         | inr w ↦ rw w (found_caused t (take_first (is_of t.0) n.kernel.waits) (frees t e w) refl)
       ]
 
-  refused_frees : (tests : List (Bool × Er)) (d : PlainTasks) (done : TaskDone) → (first_refusal tests ≡ None → Frees done) → Frees (refused_or tests d done)
+  refused_frees : (tests : List (Bool × Er)) (d : PlainTasks) (done : TaskDone)
+      → (first_refusal tests ≡ None → Frees done)
+      → Frees (refused_or tests d done)
   refused_frees tests d done frees = of (first_refusal tests) refl
     where
       of : (o : Option Er) → first_refusal tests ≡ o → Frees (unless_refused o d done)
@@ -130,7 +138,8 @@ module _ (n : PlainNode) (event : NodeEv) (ctx : Ctx) (call : KReq) (number : Ca
     | inr e ↦ rw e (at_once_caused done frees)
   ]
 
-  objects_caused : (objects : PlainObjects) (synced : Synced) (reason : WaitReason) (tmo : Tmo) → Caused (done_by_objects n.kernel (with_objects n.kernel objects) ctx synced reason tmo number)
+  objects_caused : (objects : PlainObjects) (synced : Synced) (reason : WaitReason) (tmo : Tmo)
+      → Caused (done_by_objects n.kernel (with_objects n.kernel objects) ctx synced reason tmo number)
   objects_caused objects (Took code bytes) reason tmo = tt
   objects_caused objects MustWait reason tmo = accepted_caused reason tmo
   objects_caused objects (Refused code) reason tmo = tt
@@ -140,16 +149,28 @@ module _ (n : PlainNode) (event : NodeEv) (ctx : Ctx) (call : KReq) (number : Ca
   -- a call that ends another is met at once, and hands over
   data HandsAlone (done : QueuesDone) : Type 0 where
     nobody : done.dtqs.handed ≡ None → HandsAlone done
-    one : (code : Er) (bytes : List ℕ) (h : Handed) → done.synced ≡ Took code bytes → done.dtqs.handed ≡ Some h → HandsOver n.kernel ctx call h.task (handed_bytes h.item) → HandsAlone done
+    one : (code : Er) (bytes : List ℕ) (h : Handed)
+        → done.synced ≡ Took code bytes
+        → done.dtqs.handed ≡ Some h
+        → HandsOver n.kernel ctx call h.task (handed_bytes h.item)
+        → HandsAlone done
 
-  handed_caused : (o : Outcome) (h : Handed) → o.ends ≡ [] → o.kernel.waits ≡ n.kernel.waits → HandsOver n.kernel ctx call h.task (handed_bytes h.item) → Caused (with_handed o (Some h))
+  handed_caused : (o : Outcome) (h : Handed)
+      → o.ends ≡ []
+      → o.kernel.waits ≡ n.kernel.waits
+      → HandsOver n.kernel ctx call h.task (handed_bytes h.item)
+      → Caused (with_handed o (Some h))
   handed_caused o h untold same hands = of (take_first (is_of h.task.0) o.kernel.waits) refl
     where
-      of : (z : Option (WaitingCall × List WaitingCall)) → take_first (is_of h.task.0) o.kernel.waits ≡ z → Caused (handed_to o (handed_bytes h.item) z)
+      of : (z : Option (WaitingCall × List WaitingCall))
+          → take_first (is_of h.task.0) o.kernel.waits ≡ z
+          → Caused (handed_to o (handed_bytes h.item) z)
       of None e = rw untold tt
       of (Some z) e = rw untold ((Kind.Satisfied, KernelEnds.is_handed ctx call h.task (handed_bytes h.item) z is hands (ap (take_first (is_of h.task.0)) (sym same) ∙ e)), tt)
 
-  queues_caused : (done : QueuesDone) (reason : WaitReason) (tmo : Tmo) → HandsAlone done → Caused (done_by_queues n.kernel ctx done reason tmo number)
+  queues_caused : (done : QueuesDone) (reason : WaitReason) (tmo : Tmo)
+      → HandsAlone done
+      → Caused (done_by_queues n.kernel ctx done reason tmo number)
   queues_caused done reason tmo (HandsAlone.nobody e) = rw e (objects_caused _ done.synced reason tmo)
   queues_caused done reason tmo (HandsAlone.one code bytes h took e hands) = rw (took, e) (handed_caused _ h refl refl hands)
 
@@ -166,7 +187,8 @@ module _ (n : PlainNode) (event : NodeEv) (ctx : Ctx) (number : CallNo) where
     | inr e ↦ rw e (λ u f w. absurd cc)
   ]
 
-  sleeping_frees : (call : KReq) (is : IsKernelCall event ctx call) (d : PlainTasks) (t : TaskId) (tmo : Tmo) → Frees n event ctx call number is (sleeping d t tmo)
+  sleeping_frees : (call : KReq) (is : IsKernelCall event ctx call) (d : PlainTasks) (t : TaskId) (tmo : Tmo)
+      → Frees n event ctx call number is (sleeping d t tmo)
   sleeping_frees call is d t tmo = elim (cases_Bool (nat_lt 0 (wakeups_of (block_of d t)))) [
     | inl e ↦ rw e (λ u f w. absurd cc)
     | inr e ↦ rw e (λ u f w. absurd cc)
@@ -224,10 +246,12 @@ module _ (n : PlainNode) (event : NodeEv) (ctx : Ctx) (number : CallNo) where
       of None e = side (other_side (queues_of n.kernel) q (reasons.Send q 0)) e refl
       of (Some code) e = HandsAlone.nobody refl
 
-  forced_alone : (q : ObjId) (item : ℕ) (is : IsKernelCall event ctx (FsndDtq q item)) → HandsAlone n event ctx (FsndDtq q item) number is (fsnd_dtq (queues_of n.kernel) q item)
+  forced_alone : (q : ObjId) (item : ℕ) (is : IsKernelCall event ctx (FsndDtq q item))
+      → HandsAlone n event ctx (FsndDtq q item) number is (fsnd_dtq (queues_of n.kernel) q item)
   forced_alone q item is = of (first_refusal (fsnd_dtq_refusals (queues_of n.kernel) q))
     where
-      of : (o : Option Er) → HandsAlone n event ctx (FsndDtq q item) number is (queues.unless_refused o (queues_of n.kernel) (queues.forced (queues_of n.kernel) q item))
+      of : (o : Option Er)
+          → HandsAlone n event ctx (FsndDtq q item) number is (queues.unless_refused o (queues_of n.kernel) (queues.forced (queues_of n.kernel) q item))
       of None = HandsAlone.nobody refl
       of (Some code) = HandsAlone.nobody refl
 
@@ -245,14 +269,20 @@ module _ (n : PlainNode) (event : NodeEv) (ctx : Ctx) (number : CallNo) where
     not_in_handler false e = refl
 
     -- a row that frees no task
-    frees_none : (call : KReq) (is : IsKernelCall event ctx call) (tests : List (Bool × Er)) (done : TaskDone) → done.did.freed ≡ None → Frees n event ctx call number is (refused_or tests (tasks_of n.kernel) done)
+    frees_none : (call : KReq) (is : IsKernelCall event ctx call) (tests : List (Bool × Er)) (done : TaskDone)
+        → done.did.freed ≡ None
+        → Frees n event ctx call number is (refused_or tests (tasks_of n.kernel) done)
     frees_none call is tests done none = refused_frees n event ctx call number is tests (tasks_of n.kernel) done (λ e u f w. absurd (let g : None ≡ Some u = sym none ∙ f in cc))
 
-    ends_none : (call : KReq) (is : IsKernelCall event ctx call) (tests : List (Bool × Er)) (done : TaskDone) → done.did.freed ≡ None → HaveKernelCauses n event (done_at_once n.kernel ctx (refused_or tests (tasks_of n.kernel) done)).ends
+    ends_none : (call : KReq) (is : IsKernelCall event ctx call) (tests : List (Bool × Er)) (done : TaskDone)
+        → done.did.freed ≡ None
+        → HaveKernelCauses n event (done_at_once n.kernel ctx (refused_or tests (tasks_of n.kernel) done)).ends
     ends_none call is tests done none = at_once_caused n event ctx call number is (refused_or tests (tasks_of n.kernel) done) (frees_none call is tests done none)
 
     -- the row of a call that ends a task, the caller or another
-    ended_frees : (call : KReq) (is : IsKernelCall event ctx call) (t : TaskId) → (is_waiting (tasks_of n.kernel) t ≡ true → Releases n.kernel ctx call t) → Frees n event ctx call number is (tasks.ending (tasks_of n.kernel) t)
+    ended_frees : (call : KReq) (is : IsKernelCall event ctx call) (t : TaskId)
+        → (is_waiting (tasks_of n.kernel) t ≡ true → Releases n.kernel ctx call t)
+        → Frees n event ctx call number is (tasks.ending (tasks_of n.kernel) t)
     ended_frees call is t releases u f w = let it = the_one (is_waiting (tasks_of n.kernel) t) t u f in subst (Releases n.kernel ctx call) it.1 (releases it.0)
 
     carried_out_caused : (call : KReq) → IsKernelCall event ctx call → (is_handler ctx && not (is_a_handlers call)) ≡ false → RowCaused call
@@ -293,6 +323,8 @@ module _ (n : PlainNode) (event : NodeEv) (ctx : Ctx) (number : CallNo) where
     pub row_caused : (call : KReq) → IsKernelCall event ctx call → HaveKernelCauses n event (row n.kernel ctx call number).ends
     row_caused call is = of (is_handler ctx && not (is_a_handlers call)) refl
       where
-        of : (b : Bool) → (is_handler ctx && not (is_a_handlers call)) ≡ b → HaveKernelCauses n event (if b then answered n.kernel E_CTX else carried_out n.kernel ctx call number).ends
+        of : (b : Bool)
+            → (is_handler ctx && not (is_a_handlers call)) ≡ b
+            → HaveKernelCauses n event (if b then answered n.kernel E_CTX else carried_out n.kernel ctx call number).ends
         of true e = tt
         of false e = carried_out_caused call is e

@@ -72,7 +72,10 @@ module _ (n : PlainNode) (event : NodeEv) where
 
   -- ---- an arrival ends no call by itself
 
-  either : (b : Bool) (o p : UdpOutcome) → HaveNetCauses n event o.endings.ends → HaveNetCauses n event p.endings.ends → HaveNetCauses n event (if b then o else p).endings.ends
+  either : (b : Bool) (o p : UdpOutcome)
+      → HaveNetCauses n event o.endings.ends
+      → HaveNetCauses n event p.endings.ends
+      → HaveNetCauses n event (if b then o else p).endings.ends
   either true o p x y = x
   either false o p x y = y
 
@@ -98,12 +101,14 @@ module _ (n : PlainNode) (ctx : Ctx) (number : CallNo) where
   ended_caused request None code c = tt
   ended_caused request (Some z) code c = (c z refl, tt)
 
-  sending_caused : (request : Req) (cep : CepId) (dest : EndPt) (load : List ℕ) (tmo : Tmo) → Caused request (sending n.net (caller ctx) cep dest load tmo number)
+  sending_caused : (request : Req) (cep : CepId) (dest : EndPt) (load : List ℕ) (tmo : Tmo)
+      → Caused request (sending n.net (caller ctx) cep dest load tmo number)
   sending_caused request cep dest load tmo =
       either n (Call ctx request) (is_nblk tmo)
       (accepted (with_point n.net cep (with_sending (Some (record { dest = dest; load = load })))) (caller ctx) cep functions.UdpSnd tmo number) (sent n.net cep dest load) tt tt
 
-  received_caused : (request : Req) (cep : CepId) (len : ℕ) (tmo : Tmo) (queue : List Received) → Caused request (received n.net (caller ctx) cep len tmo number queue)
+  received_caused : (request : Req) (cep : CepId) (len : ℕ) (tmo : Tmo) (queue : List Received)
+      → Caused request (received n.net (caller ctx) cep len tmo number queue)
   received_caused request cep len tmo [] = either n (Call ctx request) (is_poll tmo) (answered n.net E_TMOUT []) (waiting n.net (caller ctx) cep len tmo number) tt tt
   received_caused request cep len tmo (d ∷ ds) = tt
 
@@ -124,6 +129,8 @@ module _ (n : PlainNode) (ctx : Ctx) (number : CallNo) where
   pub row_caused : (request : Req) → Caused request (row n.net ctx request number)
   row_caused request = of (first_refusal (refusals n.net ctx request)) refl
     where
-      of : (o : Option Er) → first_refusal (refusals n.net ctx request) ≡ o → Caused request (unless_refused o n.net (carried_out n.net ctx request number))
+      of : (o : Option Er)
+          → first_refusal (refusals n.net ctx request) ≡ o
+          → Caused request (unless_refused o n.net (carried_out n.net ctx request number))
       of None e = carried_out_caused request e
       of (Some code) e = tt

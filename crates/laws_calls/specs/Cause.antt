@@ -121,12 +121,19 @@ net_row n (Arrive bytes) = side_after (after_arrival n.net (arrived_in n.net.udp
 
 -- ---- the turns of an event, and the ends of calls
 
+-- the end of a call of the network part that is met, with what is there at its end point
+abbrev pub met_end : UdpSide → NetCall → NetEnd
+met_end s c = let point = get s.udps.points c.slot.cep.0 in end_of c (met_code point c.slot.part) (met_bytes point c.slot.part)
+
 mutual
   -- where the kernel stands after the row, and after each turn
   pub data KernelAt (n : PlainNode) (event : NodeEv) : PlainKernel → Type 0 where
     after_kernel_row : KernelAt n event (kernel_row n event)
     -- the call that comes next in settling has ended
-    after_freed : (k : PlainKernel) (z : WaitingCall × List WaitingCall) → KernelAt n event k → next_freed k ≡ Some z → KernelAt n event (freed k z.0 z.1)
+    after_freed : (k : PlainKernel) (z : WaitingCall × List WaitingCall)
+        → KernelAt n event k
+        → next_freed k ≡ Some z
+        → KernelAt n event (freed k z.0 z.1)
     -- so has, in a tick where no call is ready, the one of the least number whose deadline is past
     after_timed_out : (k : PlainKernel) (z : WaitingCall × List WaitingCall)
         → event ≡ Tick
@@ -152,7 +159,10 @@ mutual
   -- the end of a call that waited in the kernel, or whose task waited there for the network part
   pub data KernelEnds (n : PlainNode) (event : NodeEv) : Kind → KEnd → Type 0 where
     -- at its turn in settling it is the call that comes next, and it has what it waited for
-    is_freed : (k : PlainKernel) (z : WaitingCall × List WaitingCall) → KernelAt n event k → next_freed k ≡ Some z → KernelEnds n event Satisfied (kernel.end_of k z.0)
+    is_freed : (k : PlainKernel) (z : WaitingCall × List WaitingCall)
+        → KernelAt n event k
+        → next_freed k ≡ Some z
+        → KernelEnds n event Satisfied (kernel.end_of k z.0)
     -- it is the call of a task that is met at a data queue of capacity 0
     is_handed : (ctx : Ctx) (call : KReq) (task : TaskId) (bytes : List ℕ) (z : WaitingCall × List WaitingCall)
         → IsKernelCall event ctx call
@@ -180,7 +190,7 @@ mutual
     is_met : (s : UdpSide) (z : NetCall × List NetCall)
         → NetAt n event s
         → first_ready s ≡ Some z
-        → NetEnds n event Satisfied (end_of z.0 (met_code (get s.udps.points z.0.slot.cep.0) z.0.slot.part) (met_bytes (get s.udps.points z.0.slot.cep.0) z.0.slot.part))
+        → NetEnds n event Satisfied (met_end s z.0)
     -- it has the number with which a task waited in the kernel, whose wait has ended there, and the same code
     is_ended : (s : UdpSide) (z : NetCall × List NetCall) (kind : Kind) (e : KEnd)
         → NetAt n event s

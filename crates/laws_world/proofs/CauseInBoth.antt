@@ -29,11 +29,18 @@ good_at w id g = elim (cases_Bool (id.0 == 0)) [
   | inr t ↦ rw t g.second
 ]
 
-all_one : (n : PlainNode) (event : NodeEv) (ends : List CallEnd) → CausesAreOne n event → AllByRecursion (HasCause n event) ends → AllByRecursion (HasOneCause n event) ends
+all_one : (n : PlainNode) (event : NodeEv) (ends : List CallEnd)
+    → CausesAreOne n event
+    → AllByRecursion (HasCause n event) ends
+    → AllByRecursion (HasOneCause n event) ends
 all_one n event [] one h = tt
 all_one n event (e ∷ es) one h = (record { some = h.0; one = one e }, all_one n event es one h.1)
 
-entry_caused : (w : PlainWorld) (e : Entry) (id : NodeId) (its : Option NodeEv) → (step w e.ev).1 ≡ e → Happens w e.ev id its → Good (node_at w.nodes id) → AreCaused (node_at w.nodes id) its e.ends
+entry_caused : (w : PlainWorld) (e : Entry) (id : NodeId) (its : Option NodeEv)
+    → (step w e.ev).1 ≡ e
+    → Happens w e.ev id its
+    → Good (node_at w.nodes id)
+    → AreCaused (node_at w.nodes id) its e.ends
 entry_caused w e id _ given (Happens.nowhere same none) g = sym (ap (λ (x : Entry). x.ends) given) ∙ none
 entry_caused w e id _ given (Happens.here its h) g =
     let n : PlainNode = node_at w.nodes id in
