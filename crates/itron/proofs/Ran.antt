@@ -14,6 +14,7 @@ use Rattle.spec_sim.proofs.Declarable.{first_declarable, second_declarable}
 use Rattle.laws_world.specs.Taken.{CanOpen}
 use Rattle.laws_world.proofs.Rest.{log_rests}
 use Rattle.laws_world.proofs.OnceInBoth.{log_once}
+use Rattle.laws_world.proofs.CauseInBoth.{log_caused}
 use Rattle.laws_sim.proofs.Ending.{serial_runs, serial_ending}
 use Rattle.itron.specs.Top.{output_of, RanScript}
 
@@ -28,6 +29,7 @@ ran left rest before after bytes s whole read wrote = record {
   run = serial_runs s;
   rests = log_rests (conf_of s) (serial s);
   once = log_once (conf_of s) (serial s) (can_open s read.good) (serial_runs s);
+  caused = log_caused (conf_of s) (serial s) (can_open s read.good) (serial_runs s);
 }
 
 full_or_not : (s : Script) → ends_with_stop (serial s) ≡ false → (ends_with_stop (serial s) ≡ true) ⊎ (is_full (serial s) ≡ true) → is_full (serial s) ≡ true

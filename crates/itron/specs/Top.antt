@@ -13,6 +13,7 @@ use Rattle.spec_world.specs.History.{ends_with_stop, IsRun}
 use Rattle.spec_sim.specs.Serial.{serial}
 use Rattle.laws_world.specs.AtRest.{LogRests}
 use Rattle.laws_world.specs.OnceInBoth.{LogOnce}
+use Rattle.laws_world.specs.CauseInBoth.{LogCaused}
 
 -- the words of the command that runs a script
 abbrev pub sim_words : List (List ℕ)
@@ -34,13 +35,14 @@ pub record ReadScript (left_before left_after : Option (List ℕ)) : Type 0 wher
   pub read : IsReadAs bytes script
 
 -- and the whole output of that script was written; its history is a run of the machine of two nodes, both of which are at rest after each
--- entry of it; and in either node each call is accepted once, ends once, and is returned from once
+-- entry of it; in either node each call is accepted once, ends once, and is returned from once; and each end has exactly one cause
 pub record RanScript (left_before left_after written_before written_after : Option (List ℕ)) : Type 0 where
   pub input : ReadScript left_before left_after
   pub wrote : Appends written_before written_after (output_of input.script)
   pub run : IsRun (conf_of input.script) (serial input.script)
   pub rests : LogRests (opened_world (conf_of input.script)) (serial input.script)
   pub once : LogOnce (serial input.script)
+  pub caused : LogCaused (conf_of input.script) (serial input.script)
 
 -- and the history ends with the stop
 pub record RanToStop (left_before left_after written_before written_after : Option (List ℕ)) : Type 0 where

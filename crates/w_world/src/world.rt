@@ -9,6 +9,7 @@ ghost use Rattle.spec_world.specs.Sizes.{is_full};
 ghost use Rattle.spec_world.specs.History.{IsRun, ends_with_stop, is_unsent, opened_history, refusal, stepped, world_of};
 ghost use Rattle.laws_world.specs.AtRest.{LogRests};
 ghost use Rattle.laws_world.specs.OnceInBoth.{LogOnce};
+ghost use Rattle.laws_world.specs.CauseInBoth.{LogCaused};
 
 use crate::nodes::Nodes;
 use crate::sent::{Sent, note_packets};
@@ -235,6 +236,10 @@ impl World {
         // In either node each number accepts one call at most, a call ends at most once, in the entry that accepted it or a later one, and
         // each return gives the end of the call that its task made last, from which no other returns.
         ensures once { LogOnce result.now }
+
+        // Each end of a call in an entry has exactly one cause, with its code: what the call waited for is there, its time is over, it is
+        // released or cancelled, or its end point is deleted.
+        ensures caused { LogCaused self.now.conf result.now }
     {
         self.log.as_slice()
     }
