@@ -1,0 +1,4 @@
+pub mod Turns
+pub mod Sendings
+pub mod Histories
+pub mod Soon

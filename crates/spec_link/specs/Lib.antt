@@ -1,0 +1,4 @@
+pub mod Fates
+pub mod Deliveries
+pub mod Link
+pub mod Operations
