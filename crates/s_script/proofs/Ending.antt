@@ -1,15 +1,19 @@
 -- Each draft that is reached can be ended: with some more lines it makes a good script.
-use Rattle.std.proofs.Common.{◌≡◌, ℕ, true, false, ◌&&◌, cond, eqb, leb, List, [], ◌∷◌, ◌++◌, Some, refl, sym, ap, ◌∙◌, append_assoc, inl, inr, arith}
-use Rattle.std.proofs.lemmas.Bool.{cases_Bool, eqb-true, ne_eqb}
-use Rattle.std.proofs.lemmas.List.{append-nil}
+use Rattle.std.proofs.Common.{◌≡◌, ℕ, zero, suc, ◌+◌, ◌≤◌, true, false, ◌&&◌, cond, eqb, ltb, leb, List, [], ◌∷◌, ◌++◌, length, Some, refl, sym, ap, ◌∙◌, append_assoc, inl, inr, arith}
+use Rattle.std.proofs.lemmas.Bool.{cases_Bool, eqb-true, ne_eqb, lt-ltb}
+use Rattle.std.proofs.lemmas.List.{append-nil, length_push}
+use Rattle.spec_script.specs.declared.decl.Line.TheVariants as body_lines
 use Rattle.spec_script.specs.declared.script_line.ScriptLine.{ScriptLine}
-use Rattle.spec_script.specs.declared.script_line.ScriptLine.TheVariants.{Itron, Link, Ticks, FirstNode, SecondNode, End}
+use Rattle.spec_script.specs.declared.script_line.ScriptLine.TheVariants.{Itron, Link, Ticks, FirstNode, SecondNode, Body, End}
 use Rattle.spec_script.specs.declared.script_line.NodeLine.{NodeLine}
 use Rattle.s_script.specs.declared.draft.Stage.{Stage}
 use Rattle.s_script.specs.declared.draft.Stage.TheVariants.{Start, Headed, Linked, Timed, Declares, InBody}
 use Rattle.s_script.specs.declared.draft.Draft.{Draft}
+use Rattle.s_script.specs.declared.owner.Owner.{Owner}
+use Rattle.s_script.specs.Owners.{may_have}
 use Rattle.s_script.specs.Drafts.{lines_at, is_last, moved}
 use Rattle.s_script.specs.Reading.{is_whole}
+use Rattle.s_script.proofs.Owned.{line_parts, pool_belongs}
 use Rattle.s_script.proofs.Added.{added}
 use Rattle.s_script.proofs.Kept.{Passes, Kept, kept}
 use Rattle.s_script.proofs.LineTakes.{is_written}
@@ -33,6 +37,10 @@ ends_with d l k p w next =
       whole = e.whole;
       grown = e.grown ∙ ap (λ (ls : List ScriptLine). ls ++ e.more) (added d.stage d l p.place p.range) ∙ append_assoc (lines_at d.stage d) (l ∷ []) e.more;
     }
+
+-- a link that loses nothing
+abbrev no_loss : ScriptLine
+no_loss = Link (Some 0) (Some 0) (Some 0) (Some 0)
 
 -- ---- a last line: node 1, with an address of its own
 
@@ -67,7 +75,7 @@ from_first : (d : Draft) → d.stage ≡ Declares → is_last d ≡ false → Ke
 from_first d e f k =
     let own = other_is d.node.addr in
     let n = node_at (other_than d.node.addr) in
-    ends_with d (SecondNode n) k (record { place = rw (e, f) refl; range = rw own.1 refl; room = rw own.0 refl; fresh = refl }) refl (from_last (moved d (SecondNode n)) refl)
+    ends_with d (SecondNode n) k (record { place = rw (e, f) refl; range = rw own.1 refl; room = rw own.0 refl; fresh = refl; nested = refl }) refl (from_last (moved d (SecondNode n)) refl)
 
 -- between declarations of either node
 from_declares : (d : Draft) → d.stage ≡ Declares → Kept d → Ends d
@@ -77,35 +85,52 @@ from_declares d e k =
       | inr f ↦ from_first d e f k
     ]
 
--- in a body `end` is missing, and then node 1
-from_body : (d : Draft) → d.stage ≡ InBody → Kept d → Ends d
-from_body d e k = ends_with d End k (record { place = rw e refl; range = refl; room = refl; fresh = refl }) refl (from_declares (moved d End) refl)
+-- in a body without open loops `end` is missing, and then node 1
+from_closed : (d : Draft) → d.stage ≡ InBody → d.depth ≡ 0 → Kept d → Ends d
+from_closed d e closed k = ends_with d End k (record { place = rw e refl; range = refl; room = refl; fresh = refl; nested = rw closed refl }) refl (from_declares (moved d End) refl)
+
+-- the end of a loop
+abbrev pool : ScriptLine
+pool = Body body_lines.Pool true
+
+-- a body may have the end of a loop
+pool_had : (o : Owner) → may_have o body_lines.Pool ≡ true
+pool_had o = (line_parts o body_lines.Pool (pool_belongs o)).1
+
+-- in a body the ends of the open loops are missing, and then `end`
+from_body : (left : ℕ) (d : Draft) → d.stage ≡ InBody → d.depth ≡ left → length d.body + left ≤ 1000 → Kept d → Ends d
+from_body zero d e depth room k = from_closed d e depth k
+from_body (suc left) d e depth room k =
+    let short : ltb (length d.body) 1000 ≡ true = lt-ltb (length d.body) 1000 (omega arith) in
+    let passes : Passes d pool = record { place = rw e (pool_had d.owner); range = refl; room = short; fresh = refl; nested = rw depth (lt-ltb 0 (suc left) (omega arith)) } in
+    ends_with d pool k passes refl
+    (from_body left (moved d pool) refl (omega (arith, depth)) (omega (arith, length_push d.body body_lines.Pool)))
 
 -- after `ticks` both nodes are missing
 from_timed : (d : Draft) → d.stage ≡ Timed → Kept d → Ends d
-from_timed d e k = ends_with d (FirstNode (node_at 1)) k (record { place = rw e refl; range = refl; room = refl; fresh = refl }) refl (from_declares (moved d (FirstNode (node_at 1))) refl)
+from_timed d e k = ends_with d (FirstNode (node_at 1)) k (record { place = rw e refl; range = refl; room = refl; fresh = refl; nested = refl }) refl (from_declares (moved d (FirstNode (node_at 1))) refl)
 
 -- after `link` also `ticks` is missing
 from_linked : (d : Draft) → d.stage ≡ Linked → Kept d → Ends d
-from_linked d e k = ends_with d (Ticks (Some 0)) k (record { place = rw e refl; range = refl; room = refl; fresh = refl }) refl (from_timed (moved d (Ticks (Some 0))) refl)
+from_linked d e k = ends_with d (Ticks (Some 0)) k (record { place = rw e refl; range = refl; room = refl; fresh = refl; nested = refl }) refl (from_timed (moved d (Ticks (Some 0))) refl)
 
 -- after `itron` also `link` is missing
 from_headed : (d : Draft) → d.stage ≡ Headed → Kept d → Ends d
-from_headed d e k = ends_with d (Link (Some 0)) k (record { place = rw e refl; range = refl; room = refl; fresh = refl }) refl (from_linked (moved d (Link (Some 0))) refl)
+from_headed d e k = ends_with d no_loss k (record { place = rw e refl; range = refl; room = refl; fresh = refl; nested = refl }) refl (from_linked (moved d no_loss) refl)
 
 -- before the first line all is missing
 from_start : (d : Draft) → d.stage ≡ Start → Kept d → Ends d
-from_start d e k = ends_with d Itron k (record { place = rw e refl; range = refl; room = refl; fresh = refl }) refl (from_headed (moved d Itron) refl)
+from_start d e k = ends_with d Itron k (record { place = rw e refl; range = refl; room = refl; fresh = refl; nested = refl }) refl (from_headed (moved d Itron) refl)
 
--- at each stage the draft can be ended
-by_stage : (stage : Stage) (d : Draft) → d.stage ≡ stage → Kept d → Ends d
-by_stage Start d e k = from_start d e k
-by_stage Headed d e k = from_headed d e k
-by_stage Linked d e k = from_linked d e k
-by_stage Timed d e k = from_timed d e k
-by_stage Declares d e k = from_declares d e k
-by_stage InBody d e k = from_body d e k
+-- at each stage the draft can be ended, in a body where it has room for the ends of its open loops
+by_stage : (stage : Stage) (d : Draft) → d.stage ≡ stage → length d.body + d.depth ≤ 1000 → Kept d → Ends d
+by_stage Start d e room k = from_start d e k
+by_stage Headed d e room k = from_headed d e k
+by_stage Linked d e room k = from_linked d e k
+by_stage Timed d e room k = from_timed d e k
+by_stage Declares d e room k = from_declares d e k
+by_stage InBody d e room k = from_body d.depth d e refl room k
 
--- each draft that keeps what drafts keep can be ended
-pub ends : (d : Draft) → Kept d → Ends d
-ends d k = by_stage d.stage d refl k
+-- each draft that keeps what drafts keep can be ended, where its body has room for the ends of its open loops
+pub ends : (d : Draft) → length d.body + d.depth ≤ 1000 → Kept d → Ends d
+ends d room k = by_stage d.stage d refl room k

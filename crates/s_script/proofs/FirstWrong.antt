@@ -1,5 +1,5 @@
 -- The first wrong line is the first with which the text is no front of a good script.
-use Rattle.std.proofs.Common.{◌≡◌, ◌≢◌, ◌⊎◌, ℕ, suc, ◌+◌, ◌-◌, Bool, true, false, cond, List, [], ◌∷◌, ◌++◌, take, Option, Some, None, Result, Ok, Err, refl, sym, ap, subst, ◌∙◌, append_assoc, inl, inr, arith}
+use Rattle.std.proofs.Common.{◌≡◌, ◌≢◌, ◌⊎◌, ℕ, suc, ◌+◌, ◌-◌, ◌≤◌, Bool, true, false, cond, List, [], ◌∷◌, ◌++◌, length, take, Option, Some, None, Result, Ok, Err, refl, sym, ap, subst, ◌∙◌, append_assoc, inl, inr, arith}
 use Rattle.std.specs.List.{AllByRecursion, filter}
 use Rattle.std.proofs.lemmas.Bool.{cases_Bool}
 use Rattle.std.proofs.lemmas.List.{append-nil, map-append}
@@ -12,8 +12,8 @@ use Rattle.s_script.specs.declared.read_bad.Why.TheVariants.{Missing}
 use Rattle.s_script.specs.declared.draft.Draft.{Draft}
 use Rattle.s_script.specs.LineKinds.{line_of}
 use Rattle.s_script.specs.Drafts.{start, script_of, lines_at, is_last, cause, moved}
-use Rattle.s_script.specs.Reading.{with_cause, with_line, take_line, is_whole, at_end_of_text, at_line, go_on, read_from, finished, read_text}
-use Rattle.s_script.specs.FirstWrong.{first_lines, IsFront}
+use Rattle.s_script.specs.Reading.{with_cause, with_line, take_line, draft_after, is_whole, at_end_of_text, at_line, go_on, read_from, finished, read_text}
+use Rattle.s_script.specs.FirstWrong.{first_lines, CanClose, IsFront}
 use Rattle.s_script.proofs.Added.{added}
 use Rattle.s_script.proofs.Kept.{Passes, no_cause, Kept, start_kept, kept}
 use Rattle.s_script.proofs.Led.{took, is_kept, taken, whole_lines, good}
@@ -52,6 +52,7 @@ record Stops (number : ℕ) (d : Draft) (lines : List (List ℕ)) (at : ℕ) (wh
   pub reads : AllByRecursion IsReadLine read
   pub texts : filter is_kept (take count lines) ≡ texts_of read
   pub grown : lines_at (moved_by d read).stage (moved_by d read) ≡ lines_at d.stage d ++ read
+  pub reached : draft_after d (take count lines) ≡ took (moved_by d read)
   pub keeps : Kept (moved_by d read)
   pub last : (why ≡ Missing) ⊎ WrongLine d read (filter is_kept (take (suc count) lines))
 
@@ -110,14 +111,24 @@ fails d line why e =
 
 -- ---- the three ways to go on
 
+-- no lines lead to the draft itself
+none_reached : (d : Draft) → draft_after d [] ≡ took d
+unfolding draft_after
+none_reached d = refl
+
+-- a line that was taken, and the draft after those that follow
+next_reached : (d next : Draft) (line : List ℕ) (lines : List (List ℕ)) (e : Draft) → take_line d line ≡ took next → draft_after next lines ≡ took e → draft_after d (line ∷ lines) ≡ took e
+unfolding draft_after
+next_reached d next line lines e taken later = rw taken later
+
 -- the end of the text
 stops_at_end : (number : ℕ) (d : Draft) (at : ℕ) (why : Why) → Kept d → (number ≡ at) × (Missing ≡ why) → Stops number d [] at why
-stops_at_end number d at why k e = record { count = 0; counted = omega arith; read = []; reads = tt; texts = refl; grown = sym (append-nil (lines_at d.stage d)); keeps = k; last = inl (sym e.1) }
+stops_at_end number d at why k e = record { count = 0; counted = omega arith; read = []; reads = tt; texts = refl; grown = sym (append-nil (lines_at d.stage d)); reached = none_reached d; keeps = k; last = inl (sym e.1) }
 
 -- the wrong line
 stops_here : (number : ℕ) (d : Draft) (line : List ℕ) (lines : List (List ℕ)) (at : ℕ) (why : Why) → Kept d → number ≡ at → (is_skipped line ≡ false) × IsWrong d line → Stops number d (line ∷ lines) at why
 stops_here number d line lines at why k e w =
-    record { count = 0; counted = omega arith; read = []; reads = tt; texts = refl; grown = sym (append-nil (lines_at d.stage d)); keeps = k; last = inr (record { line = line; texts = rw w.0 refl; wrong = w.1 }) }
+    record { count = 0; counted = omega arith; read = []; reads = tt; texts = refl; grown = sym (append-nil (lines_at d.stage d)); reached = none_reached d; keeps = k; last = inr (record { line = line; texts = rw w.0 refl; wrong = w.1 }) }
 
 -- one more line before those of a wrong line
 wrong_later : (d : Draft) (l : ScriptLine) (read : List ScriptLine) (line : List ℕ) (lines : List (List ℕ)) → line ≡ line_text l → WrongLine (moved d l) read lines → WrongLine d (l ∷ read) (line ∷ lines)
@@ -125,28 +136,31 @@ wrong_later d l read line lines spelling w =
     record { line = w.line; texts = ap (λ (t : List ℕ). t ∷ lines) spelling ∙ ap (λ (ts : List (List ℕ)). line_text l ∷ ts) w.texts; wrong = w.wrong }
 
 -- a skipped line before the wrong one
-stops_skipped : (number : ℕ) (d : Draft) (line : List ℕ) (lines : List (List ℕ)) (at : ℕ) (why : Why) → is_skipped line ≡ true → Stops (number + 1) d lines at why → Stops number d (line ∷ lines) at why
-stops_skipped number d line lines at why s m = record {
+stops_skipped : (number : ℕ) (d : Draft) (line : List ℕ) (lines : List (List ℕ)) (at : ℕ) (why : Why) → is_skipped line ≡ true → take_line d line ≡ took d
+    → Stops (number + 1) d lines at why → Stops number d (line ∷ lines) at why
+stops_skipped number d line lines at why s t m = record {
   count = suc m.count;
   counted = omega (arith, m.counted);
   read = m.read;
   reads = m.reads;
   texts = rw s m.texts;
   grown = m.grown;
+  reached = next_reached d d line (take m.count lines) (moved_by d m.read) t m.reached;
   keeps = m.keeps;
   last = elim m.last [ inl e ↦ inl e | inr w ↦ inr (record { line = w.line; texts = rw s w.texts; wrong = w.wrong }) ];
 }
 
 -- a line before the wrong one that was added
 stops_moved : (number : ℕ) (d : Draft) (l : ScriptLine) (line : List ℕ) (lines : List (List ℕ)) (at : ℕ) (why : Why) → is_skipped line ≡ false → line_of line ≡ Some l → line ≡ line_text l → Passes d l
-    → Stops (number + 1) (moved d l) lines at why → Stops number d (line ∷ lines) at why
-stops_moved number d l line lines at why s read spelling p m = record {
+    → take_line d line ≡ took (moved d l) → Stops (number + 1) (moved d l) lines at why → Stops number d (line ∷ lines) at why
+stops_moved number d l line lines at why s read spelling p t m = record {
   count = suc m.count;
   counted = omega (arith, m.counted);
   read = l ∷ m.read;
   reads = (ap line_of (sym spelling) ∙ read, m.reads);
   texts = rw s (ap (λ (t : List ℕ). t ∷ filter is_kept (take m.count lines)) spelling ∙ ap (λ (ts : List (List ℕ)). line_text l ∷ ts) m.texts);
   grown = m.grown ∙ ap (λ (ls : List ScriptLine). ls ++ m.read) (added d.stage d l p.place p.range) ∙ append_assoc (lines_at d.stage d) (l ∷ []) m.read;
+  reached = next_reached d (moved d l) line (take m.count lines) (moved_by (moved d l) m.read) t m.reached;
   keeps = m.keeps;
   last = elim m.last [ inl e ↦ inl e | inr w ↦ inr (rw s (wrong_later d l m.read line (filter is_kept (take (suc m.count) lines)) spelling w)) ];
 }
@@ -158,10 +172,10 @@ stopped number d rest [] at why h k = stops_at_end number d at why k (at_end_is 
 stopped number d rest (line ∷ lines) at why h k =
     elim (on_line number (take_line d line) (λ next. read_from (number + 1) next rest lines) at why h) [
       | inl g ↦ elim (taken d line g.draft g.taken) [
-        | inl s ↦ stops_skipped number d line lines at why s.skipped (subst (λ (x : Draft). Stops (number + 1) x lines at why) (sym s.same) (stopped (number + 1) g.draft rest lines at why g.later (subst Kept s.same k)))
+        | inl s ↦ stops_skipped number d line lines at why s.skipped (subst (λ (x : Draft). take_line d line ≡ took x) (sym s.same) g.taken) (subst (λ (x : Draft). Stops (number + 1) x lines at why) (sym s.same) (stopped (number + 1) g.draft rest lines at why g.later (subst Kept s.same k)))
         | inr m ↦
             let spelling = (line_takes line m.read m.read_is).fact m.passes.range in
-            stops_moved number d m.read line lines at why m.counted m.read_is spelling.0 m.passes
+            stops_moved number d m.read line lines at why m.counted m.read_is spelling.0 m.passes (subst (λ (x : Draft). take_line d line ≡ took x) (sym m.same) g.taken)
             (subst (λ (x : Draft). Stops (number + 1) x lines at why) (sym m.same) (stopped (number + 1) g.draft rest lines at why g.later (subst Kept m.same (kept d m.read k m.passes spelling.1))))
       ]
       | inr f ↦ stops_here number d line lines at why k f.0 (fails d line why f.1)
@@ -169,10 +183,10 @@ stopped number d rest (line ∷ lines) at why h k =
 
 -- ---- before the wrong line
 
--- the lines of a draft are a front of a good script
-front : (d : Draft) (read : List ScriptLine) → Kept d → lines_at d.stage d ≡ read → IsFront (texts_of read)
-front d read k same =
-    let e = ends d k in
+-- the lines of a draft are a front of a good script, where its body has room for the ends of its open loops
+front : (d : Draft) (read : List ScriptLine) → length d.body + d.depth ≤ 1000 → Kept d → lines_at d.stage d ≡ read → IsFront (texts_of read)
+front d read room k same =
+    let e = ends d room k in
     let lines : lines_of (script_of e.last) ≡ read ++ e.more = sym (whole_lines e.last e.whole) ∙ e.grown ∙ ap (λ (ls : List ScriptLine). ls ++ e.more) same in
     record { script = script_of e.last; good = good e.last e.keeps e.whole; more = texts_of e.more; whole = ap texts_of lines ∙ map-append line_text read e.more }
 
@@ -214,13 +228,14 @@ refusal : (text : List ℕ) (at : ℕ) (why : Why) → read_text text ≡ Err (a
 unfolding read_text
 refusal text at why e = stopped 1 start (split_lines text).1 (split_lines text).0 at why (finished_wrong (read_from 1 start (split_lines text).1 (split_lines text).0) at why e) start_kept
 
--- the lines before the wrong one are a front of a good script
-pub front_before : (text : List ℕ) (at : ℕ) (why : Why) → read_text text ≡ Err (at, why) → IsFront (first_lines (at - 1) text)
-front_before text at why e =
+-- the lines before the wrong one are a front of a good script, where an open body has room for the ends of its open loops
+pub front_before : (text : List ℕ) (at : ℕ) (why : Why) → read_text text ≡ Err (at, why) → CanClose (take (at - 1) (split_lines text).0) → IsFront (first_lines (at - 1) text)
+front_before text at why e can =
     let s = refusal text at why e in
     let count : at - 1 ≡ s.count = omega (arith, s.counted) in
     let texts : first_lines (at - 1) text ≡ texts_of s.read = ap (λ (n : ℕ). first_lines n text) count ∙ s.texts in
-    subst IsFront (sym texts) (front (moved_by start s.read) s.read s.keeps s.grown)
+    let reached : draft_after start (take (at - 1) (split_lines text).0) ≡ took (moved_by start s.read) = ap (λ (n : ℕ). draft_after start (take n (split_lines text).0)) count ∙ s.reached in
+    subst IsFront (sym texts) (front (moved_by start s.read) s.read (can.room (moved_by start s.read) reached) s.keeps s.grown)
 
 -- with the wrong line they are none
 pub no_front_with : (text : List ℕ) (at : ℕ) (why : Why) → read_text text ≡ Err (at, why) → why ≢ Missing → IsFront (first_lines at text) → ⊥

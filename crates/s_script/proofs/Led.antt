@@ -175,12 +175,12 @@ last_lines : (d : Draft) (n : NodeDecl) → d.first ≡ Some n → lines_at Decl
 last_lines d n first =
     let ds = flat_map declaration_lines n.decls in
     let es = flat_map declaration_lines d.node.decls in
-    let head = head_of d.key d.ticks (node_line n) in
+    let head = head_of d.link d.ticks (node_line n) in
     let second = SecondNode (node_line d.node) ∷ [] in
-    ap (λ (o : Option NodeDecl). lines_before d.key d.ticks o (node_line d.node) ++ es) first
+    ap (λ (o : Option NodeDecl). lines_before d.link d.ticks o (node_line d.node) ++ es) first
     ∙ append_assoc head (ds ++ second) es
     ∙ ap (λ (ls : List ScriptLine). head ++ ls) (append_assoc ds second es)
-    ∙ ap (λ (o : Option NodeDecl). head_of d.key d.ticks (node_line (unwrap_or o no_node)) ++ (flat_map declaration_lines (unwrap_or o no_node).decls ++ (SecondNode (node_line d.node) ∷ es))) (sym first)
+    ∙ ap (λ (o : Option NodeDecl). head_of d.link d.ticks (node_line (unwrap_or o no_node)) ++ (flat_map declaration_lines (unwrap_or o no_node).decls ++ (SecondNode (node_line d.node) ∷ es))) (sym first)
 
 -- the lines of a whole draft are those of its script
 pub whole_lines : (d : Draft) → IsWhole d → lines_at d.stage d ≡ lines_of (script_of d)
@@ -201,7 +201,7 @@ good e k whole =
       first = after.0;
       second = k.good;
       addresses = after.1;
-      sure_link = refl;
+      four_numbers = k.four;
       two_nodes = refl;
     }
 

@@ -1,6 +1,7 @@
 pub mod FirstLines
 pub mod LineFields
 pub mod LineTakes
+pub mod SendLines
 pub mod EachTakes
 pub mod LineAgain
 pub mod EachAgain
@@ -10,8 +11,10 @@ pub mod Added
 pub mod Kept
 pub mod Led
 pub mod Plain
+pub mod Counted
 pub mod ScriptRuns
 pub mod ReadBack
 pub mod Printed
 pub mod Ending
 pub mod FirstWrong
+pub mod LineExamples

@@ -1,13 +1,14 @@
 -- A line in its ranges is read again from its text.
-use Rattle.std.proofs.Common.{◌≡◌, ℕ, ◌≤◌, Bool, true, false, leb, [], ◌++◌, Option, Some, None, codes, refl, arith}
+use Rattle.std.proofs.Common.{◌≡◌, ℕ, ◌+◌, ◌≤◌, Bool, true, false, leb, ltb, [], ◌++◌, Option, Some, None, codes, refl, arith}
 use Rattle.std.specs.Fmt.{decimal}
-use Rattle.std.proofs.lemmas.Bool.{and_parts, leb-true}
-use Rattle.spec_script.specs.declared.script_line.ScriptLine.TheVariants.{Itron, Link, Ticks, FirstNode, SecondNode, Sem, Flg, Dtq, Task, Cyc, Cbr, End}
+use Rattle.std.proofs.lemmas.Bool.{and_parts, leb-true, le-leb, lt-ltb}
+use Rattle.spec_script.specs.declared.decl.Line.TheVariants.{Fill, Loop, Pool, UntilEnd, UntilFail, UntilEmpty}
+use Rattle.spec_script.specs.declared.script_line.ScriptLine.TheVariants.{Itron, Link, Ticks, FirstNode, SecondNode, Sem, Flg, Dtq, Task, Cyc, Cbr, Body, End}
 use Rattle.spec_script.specs.declared.script_line.NodeLine.{NodeLine}
 use Rattle.spec_script.specs.Lines.{order_text, waiters_text, clearing_text, start_text, running_text, field, node_text, line_text}
-use Rattle.spec_script.specs.Ranges.{within, is_at_most, is_node_in_range, is_in_range}
+use Rattle.spec_script.specs.Ranges.{within, is_at_most, are_parts_of_16, is_node_in_range, is_in_range, is_written_line}
 use Rattle.it_types.specs.Cursor.{and_then, after}
-use Rattle.s_script.specs.LineKinds.{itron_line, link_line, ticks_line, node_at, first_node_line, second_node_line, either_node_line, sem_line, flg_line, dtq_line, task_line, cyc_line, cbr_line, line_of}
+use Rattle.s_script.specs.LineKinds.{itron_line, link_line, ticks_line, node_at, first_node_line, second_node_line, either_node_line, sem_line, flg_line, dtq_line, task_line, cyc_line, cbr_line, fill_line, loop_line, line_by, until_line, line_of}
 use Rattle.it_types.proofs.Numerals.{number_again, number_last, address_again}
 use Rattle.s_script.proofs.LineFields.{number_field_again, number_field_last, order_again, waiters_again, clearing_again, start_again, running_again}
 
@@ -23,12 +24,35 @@ pub at_most : {P : Type 0} (m : Option ℕ) (n : ℕ) → is_at_most m (Some n) 
 at_most None n e go = absurd (let none : false ≡ true = e in cc)
 at_most (Some m) n e go = go m refl (leb-true m n e)
 
+-- what follows from parts of 16 packets, which are there
+pub in_parts : {P : Type 0} (m n : Option ℕ) → are_parts_of_16 m n ≡ true → ((v w : ℕ) → m ≡ Some v → n ≡ Some w → v + w ≤ 16 → P) → P
+in_parts (Some m) (Some n) e go = go m n refl refl (leb-true (m + n) 16 e)
+in_parts (Some m) None e go = absurd (let none : false ≡ true = e in cc)
+in_parts None n e go = absurd (let none : false ≡ true = e in cc)
+
 -- ---- one lemma for each kind of line
 
--- link KEY 0 0 0
-pub link_again : (key : Option ℕ) → is_in_range (Link key) ≡ true → line_of (line_text (Link key)) ≡ Some (Link key)
-unfolding line_of link_line and_then after
-link_again key range = in_bounds 0 key 18446744073709551615 range λ k e high. rw (e, number_again k (codes " 0 0 0") (omega arith) refl) refl
+-- link KEY LOSE TWICE DELAY, of numbers
+link_of_numbers : (key lose twice delay : ℕ) → key ≤ 18446744073709551615 → lose + twice ≤ 16 → delay ≤ 1000
+    → line_of (line_text (Link (Some key) (Some lose) (Some twice) (Some delay))) ≡ Some (Link (Some key) (Some lose) (Some twice) (Some delay))
+unfolding line_of link_line and_then
+link_of_numbers key lose twice delay k p d =
+    rw (
+      number_field_again key (field (decimal lose) ++ (field (decimal twice) ++ field (decimal delay))) (omega arith) refl,
+      number_field_again lose (field (decimal twice) ++ field (decimal delay)) (omega arith) refl,
+      number_field_again twice (field (decimal delay)) (omega arith) refl,
+      number_field_last delay (omega arith),
+    ) refl
+
+-- the same of numbers that are there
+pub link_again : (key lose twice delay : Option ℕ) → is_in_range (Link key lose twice delay) ≡ true → line_of (line_text (Link key lose twice delay)) ≡ Some (Link key lose twice delay)
+link_again key lose twice delay range =
+    let bounds = and_parts (within 0 key 18446744073709551615) _ range in
+    let others = and_parts (are_parts_of_16 lose twice) (within 0 delay 1000) bounds.1 in
+    in_bounds 0 key 18446744073709551615 bounds.0 λ k e x.
+    in_parts lose twice others.0 λ m n f g y.
+    in_bounds 0 delay 1000 others.1 λ d h z.
+    rw (e, f, g, h) (link_of_numbers k m n d x y z)
 
 -- ticks T
 pub ticks_again : (ticks : Option ℕ) → is_in_range (Ticks ticks) ≡ true → line_of (line_text (Ticks ticks)) ≡ Some (Ticks ticks)
@@ -184,3 +208,40 @@ itron_again = refl
 pub end_again : line_of (line_text End) ≡ Some End
 unfolding line_of
 end_again = refl
+
+-- fill N
+pub fill_again : (n : ℕ) → is_written_line (Fill n) ≡ true → line_of (line_text (Body (Fill n) true)) ≡ Some (Body (Fill n) true)
+unfolding line_of fill_line and_then
+fill_again n written =
+    let high = leb-true n 65280 written in
+    let low : ltb n 65281 ≡ true = lt-ltb n 65281 (omega (arith, high)) in
+    let there : leb 0 n ≡ true = le-leb 0 n (omega arith) in
+    rw (number_field_last n (omega (arith, high)), low, there, written) refl
+
+-- loop N
+pub loop_again : (n : ℕ) → is_written_line (Loop n) ≡ true → line_of (line_text (Body (Loop n) true)) ≡ Some (Body (Loop n) true)
+unfolding line_of loop_line and_then
+loop_again n written =
+    let high = leb-true n 65535 (and_parts (leb 1 n) (leb n 65535) written).1 in
+    let low : ltb n 65536 ≡ true = lt-ltb n 65536 (omega (arith, high)) in
+    rw (number_field_last n (omega (arith, high)), low, written) refl
+
+-- pool
+pub pool_again : line_of (line_text (Body Pool true)) ≡ Some (Body Pool true)
+unfolding line_of
+pool_again = refl
+
+-- until end
+pub until_end_again : line_of (line_text (Body UntilEnd true)) ≡ Some (Body UntilEnd true)
+unfolding line_of until_line line_by and_then after
+until_end_again = refl
+
+-- until fail
+pub until_fail_again : line_of (line_text (Body UntilFail true)) ≡ Some (Body UntilFail true)
+unfolding line_of until_line line_by and_then after
+until_fail_again = refl
+
+-- until empty
+pub until_empty_again : line_of (line_text (Body UntilEmpty true)) ≡ Some (Body UntilEmpty true)
+unfolding line_of until_line line_by and_then after
+until_empty_again = refl

@@ -1,21 +1,25 @@
 -- A line that is read in its ranges is spelled as it is printed.
-use Rattle.std.proofs.Common.{◌≡◌, ℕ, Bool, true, false, List, [], ◌++◌, Option, Some, None, is_some, codes, refl, sym, ap, subst, ◌∙◌, append_assoc}
-use Rattle.std.proofs.lemmas.Bool.{and_parts}
+use Rattle.std.proofs.Common.{◌≡◌, ℕ, ◌<◌, Bool, true, false, leb, ltb, List, [], ◌++◌, Option, Some, None, is_some, codes, refl, sym, ap, subst, ◌∙◌, append_assoc, arith}
+use Rattle.std.proofs.lemmas.Bool.{and_parts, lt-ltb}
 use Rattle.std.proofs.lemmas.List.{append-nil}
+use Rattle.spec_script.specs.declared.decl.Line.{Line}
+use Rattle.spec_script.specs.declared.decl.Line.TheVariants.{Fill, Loop, Pool, UntilEnd, UntilFail, UntilEmpty}
 use Rattle.spec_script.specs.declared.script_line.ScriptLine.{ScriptLine}
-use Rattle.spec_script.specs.declared.script_line.ScriptLine.TheVariants.{Itron, Link, Ticks, FirstNode, SecondNode, Sem, Flg, Dtq, Task, Cyc, Cbr, Call, End}
+use Rattle.spec_script.specs.declared.script_line.ScriptLine.TheVariants.{Itron, Link, Ticks, FirstNode, SecondNode, Sem, Flg, Dtq, Task, Cyc, Cbr, Body, End}
 use Rattle.spec_script.specs.declared.script_line.NodeLine.{NodeLine}
-use Rattle.spec_script.specs.Lines.{line_text, number_text, start_text, running_text, node_text}
-use Rattle.spec_script.specs.Ranges.{within, is_at_most, is_node_in_range, is_in_range, is_written_call}
-use Rattle.it_types.specs.Cursor.{at_end}
-use Rattle.s_script.specs.LineKinds.{itron_line, link_line, ticks_line, node_at, first_node_line, second_node_line, either_node_line, sem_line, flg_line, dtq_line, task_line, cyc_line, cbr_line, end_line}
+use Rattle.spec_script.specs.Lines.{line_text, body_line_text, number_text, start_text, running_text, node_text}
+use Rattle.spec_script.specs.Ranges.{within, is_at_most, are_parts_of_16, is_node_in_range, is_in_range, is_written_line}
+use Rattle.it_types.specs.Cursor.{or_else, at_end}
+use Rattle.it_types.specs.Numbers.{below_or_0}
+use Rattle.s_script.specs.LineKinds.{itron_line, link_line, ticks_line, node_at, first_node_line, second_node_line, either_node_line, sem_line, flg_line, dtq_line, task_line, cyc_line, cbr_line, fill_line, loop_line, pool_line, line_by, until_line, end_line, fill_limit, round_limit}
 use Rattle.it_types.proofs.ReadSteps.{read_step, found_is, at_end_is, after_takes}
 use Rattle.it_types.proofs.Numerals.{number_takes, address_takes}
 use Rattle.s_script.proofs.LineFields.{either, number_field_takes, choice_field_takes, order_takes}
+use Rattle.s_script.proofs.LineAgain.{in_bounds}
 
--- a line whose call, if it is one, can be written
+-- a line that can be written, if it is one of a body
 abbrev pub is_written : ScriptLine → Bool
-is_written (Call request fits) = is_written_call request
+is_written (Body line fits) = is_written_line line
 is_written _ = true
 
 -- where the line is in its ranges, the bytes are its text
@@ -38,6 +42,16 @@ at_most_some : (m n : Option ℕ) → is_at_most m n ≡ true → is_some m ≡ 
 at_most_some (Some m) n e = refl
 at_most_some None n e = absurd (let none : false ≡ true = e in cc)
 
+-- parts of 16 packets are there
+parts_some : (m n : Option ℕ) → are_parts_of_16 m n ≡ true → (is_some m ≡ true) × (is_some n ≡ true)
+parts_some (Some m) (Some n) e = (refl, refl)
+parts_some (Some m) None e = absurd (let none : false ≡ true = e in cc)
+parts_some None n e = absurd (let none : false ≡ true = e in cc)
+
+-- a number below the limit stands as itself
+stays : (limit : ℕ) (n : Option ℕ) (v : ℕ) → n ≡ Some v → v < limit → below_or_0 limit n ≡ v
+stays limit n v is low = let small : ltb v limit ≡ true = lt-ltb v limit low in rw (is, small) refl
+
 -- ---- one lemma for each kind of line
 
 -- itron 1
@@ -46,16 +60,26 @@ unfolding itron_line
 itron_takes bytes l e =
     read_step e λ rest p e1. at_end_takes (codes "itron" ++ bytes) rest Itron l e1 (λ nil. record { fact = λ range. (rw (after_takes (codes " 1") bytes rest p, nil) refl, refl) })
 
--- link KEY 0 0 0
+-- link KEY LOSE TWICE DELAY
 pub link_takes : (bytes : List ℕ) (l : ScriptLine) → link_line bytes ≡ Some l → Takes (codes "link" ++ bytes) l
 unfolding link_line
 link_takes bytes l e =
-    read_step e λ rest p e1. read_step e1 λ key q e2. read_step e2 λ end r e3.
-    at_end_takes (codes "link" ++ bytes) end (Link key.0) l e3 (λ nil. record {
-      fact = λ range. (
-        rw (after_takes (codes " ") bytes rest p, number_takes rest key q (within_some _ key.0 _ range), after_takes (codes " 0 0 0") key.1 end r, nil) refl,
-        refl,
-      );
+    read_step e λ key p e1. read_step e1 λ lose q e2. read_step e2 λ twice r e3. read_step e3 λ delay s e4.
+    at_end_takes (codes "link" ++ bytes) delay.1 (Link key.0 lose.0 twice.0 delay.0) l e4 (λ nil. record {
+      fact = λ range.
+          let bounds = and_parts (within 0 key.0 18446744073709551615) _ range in
+          let others = and_parts (are_parts_of_16 lose.0 twice.0) (within 0 delay.0 1000) bounds.1 in
+          let parts = parts_some lose.0 twice.0 others.0 in (
+            rw (
+              number_field_takes bytes key p (within_some _ key.0 _ bounds.0),
+              number_field_takes key.1 lose q parts.0,
+              number_field_takes lose.1 twice r parts.1,
+              number_field_takes twice.1 delay s (within_some _ delay.0 _ others.1),
+              nil,
+              append-nil (number_text delay.0),
+            ) refl,
+            refl,
+          );
     })
 
 -- ticks T
@@ -221,6 +245,57 @@ cbr_takes bytes l e =
     at_end_takes (codes "cbr" ++ bytes) id.1 (Cbr id.0) l e1 (λ nil. record {
       fact = λ range. (rw (number_field_takes bytes id p (within_some _ id.0 _ range), nil, append-nil (number_text id.0)) refl, refl);
     })
+
+-- fill N
+pub fill_takes : (bytes : List ℕ) (l : ScriptLine) → fill_line bytes ≡ Some l → Takes (codes "fill" ++ bytes) l
+unfolding fill_line
+fill_takes bytes l e =
+    read_step e λ n p e1.
+    at_end_takes (codes "fill" ++ bytes) n.1 (Body (Fill (below_or_0 65281 n.0)) (within 0 n.0 fill_limit)) l e1 (λ nil. record {
+      fact = λ range.
+          in_bounds 0 n.0 fill_limit range λ v is high.
+          let value : below_or_0 65281 n.0 ≡ v = stays 65281 n.0 v is (omega (arith, high)) in (
+            rw (value, number_field_takes bytes n p (rw is refl), nil, is, append-nil (number_text (Some v))) refl,
+            rw value (and_parts (leb 0 v) (leb v fill_limit) (rw is at range)).1,
+          );
+    })
+
+-- loop N
+pub loop_takes : (bytes : List ℕ) (l : ScriptLine) → loop_line bytes ≡ Some l → Takes (codes "loop" ++ bytes) l
+unfolding loop_line
+loop_takes bytes l e =
+    read_step e λ n p e1.
+    at_end_takes (codes "loop" ++ bytes) n.1 (Body (Loop (below_or_0 65536 n.0)) (within 1 n.0 round_limit)) l e1 (λ nil. record {
+      fact = λ range.
+          in_bounds 1 n.0 round_limit range λ v is high.
+          let value : below_or_0 65536 n.0 ≡ v = stays 65536 n.0 v is (omega (arith, high)) in (
+            rw (value, number_field_takes bytes n p (rw is refl), nil, is, append-nil (number_text (Some v))) refl,
+            rw value (rw is at range),
+          );
+    })
+
+-- pool
+pub pool_takes : (bytes : List ℕ) (l : ScriptLine) → pool_line bytes ≡ Some l → Takes (codes "pool" ++ bytes) l
+pool_takes bytes l e = at_end_takes (codes "pool" ++ bytes) bytes (Body Pool true) l e (λ nil. record { fact = λ range. (rw nil refl, refl) })
+
+-- until, and what follows it
+line_by_takes : (word : List ℕ) (line : Line) → codes "until" ++ word ≡ body_line_text line → is_written_line line ≡ true → (bytes : List ℕ) (l : ScriptLine) → line_by word line bytes ≡ Some l → Takes (codes "until" ++ bytes) l
+unfolding line_by
+line_by_takes word line text written bytes l e =
+    read_step e λ rest p e1.
+    at_end_takes (codes "until" ++ bytes) rest (Body line true) l e1 (λ nil. record {
+      fact = λ range. (rw (after_takes word bytes rest p, nil, append-nil word) text, written);
+    })
+
+-- until end, until fail or until empty
+pub until_takes : (bytes : List ℕ) (l : ScriptLine) → until_line bytes ≡ Some l → Takes (codes "until" ++ bytes) l
+unfolding until_line
+until_takes bytes l e =
+    either (line_by (codes " end") UntilEnd bytes) (or_else (line_by (codes " fail") UntilFail bytes) (line_by (codes " empty") UntilEmpty bytes)) l e
+    (line_by_takes (codes " end") UntilEnd refl refl bytes l)
+    (λ f. either (line_by (codes " fail") UntilFail bytes) (line_by (codes " empty") UntilEmpty bytes) l f
+    (line_by_takes (codes " fail") UntilFail refl refl bytes l)
+    (line_by_takes (codes " empty") UntilEmpty refl refl bytes l))
 
 -- end
 pub end_takes : (bytes : List ℕ) (l : ScriptLine) → end_line bytes ≡ Some l → Takes (codes "end" ++ bytes) l

@@ -4,33 +4,37 @@ use Rattle.std.proofs.lemmas.Bool.{and_parts}
 use Rattle.spec_script.specs.declared.decl.Body.{Body}
 use Rattle.spec_script.specs.declared.decl.Line.{Line}
 use Rattle.spec_script.specs.declared.decl.Line.TheVariants as body_lines
-use Rattle.it_types.specs.declared.request.Req.{Req}
-use Rattle.spec_script.specs.Today.{is_exit}
 use Rattle.spec_script.specs.Lines.{with_body, declaration_lines}
-use Rattle.spec_script.specs.Ranges.{is_written_call, is_written_line, is_handler_line, is_written_body, is_written_declaration}
+use Rattle.spec_script.specs.Ranges.{is_written_line, is_exit_line, is_handler_line, is_written_body, is_written_declaration}
 use Rattle.s_script.specs.declared.owner.Owner.{Owner}
 use Rattle.s_script.specs.declared.owner.Owner.TheVariants.{Task, Cyc, Cbr}
-use Rattle.s_script.specs.Owners.{opening, may_call, declaration_of}
+use Rattle.s_script.specs.Owners.{opening, may_have, declaration_of}
 
--- a line that the body may have
-abbrev pub may_have : Owner → Line → Bool
-may_have (Task task) line = is_written_line line
-may_have _ line = is_handler_line line
+-- a line that can be written, and that the body may have
+abbrev pub belongs : Owner → Line → Bool
+belongs (Task task) line = is_written_line line
+belongs _ line = is_handler_line line
 
--- a call that the body may have, as a line
-pub call_had : (o : Owner) (request : Req) → is_written_call request ≡ true → may_call o request ≡ true → may_have o (body_lines.Call request) ≡ true
-call_had (Task task) request written may = written
-call_had (Cyc cyc) request written may = rw (written, may) refl
-call_had (Cbr cbr) request written may = rw (written, may) refl
+-- a written line that the body may have belongs to it
+pub line_belongs : (o : Owner) (line : Line) → is_written_line line ≡ true → may_have o line ≡ true → belongs o line ≡ true
+line_belongs (Task task) line written may = written
+line_belongs (Cyc cyc) line written may = rw (written, may) refl
+line_belongs (Cbr cbr) line written may = rw (written, may) refl
 
--- a line that the body may have is a call that it may have
-pub call_parts : (o : Owner) (request : Req) → may_have o (body_lines.Call request) ≡ true → (is_written_call request ≡ true) × (may_call o request ≡ true)
-call_parts (Task task) request has = (has, refl)
-call_parts (Cyc cyc) request has = and_parts (is_written_call request) (not (is_exit request)) has
-call_parts (Cbr cbr) request has = and_parts (is_written_call request) (not (is_exit request)) has
+-- a line that belongs to the body can be written, and the body may have it
+pub line_parts : (o : Owner) (line : Line) → belongs o line ≡ true → (is_written_line line ≡ true) × (may_have o line ≡ true)
+line_parts (Task task) line has = (has, refl)
+line_parts (Cyc cyc) line has = and_parts (is_written_line line) (not (is_exit_line line)) has
+line_parts (Cbr cbr) line has = and_parts (is_written_line line) (not (is_exit_line line)) has
+
+-- the end of a loop belongs to each body
+pub pool_belongs : (o : Owner) → belongs o body_lines.Pool ≡ true
+pool_belongs (Task task) = refl
+pool_belongs (Cyc cyc) = refl
+pool_belongs (Cbr cbr) = refl
 
 -- its declaration can be written where its body can
-pub body_written : (o : Owner) (body : Body) → is_written_declaration (declaration_of o body) ≡ is_written_body (may_have o) body
+pub body_written : (o : Owner) (body : Body) → is_written_declaration (declaration_of o body) ≡ is_written_body (belongs o) body
 body_written (Task task) body = refl
 body_written (Cyc cyc) body = refl
 body_written (Cbr cbr) body = refl

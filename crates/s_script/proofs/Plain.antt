@@ -7,13 +7,16 @@ use Rattle.std.proofs.lemmas.Bool.{cases_Bool, and_parts, not-true, ne_eqb, leb-
 use Rattle.std.proofs.lemmas.List.Folds.{list_all-append}
 use Rattle.std.specs.Prelude.{nat_eq}
 use Rattle.std.specs.Cmp.Lexicographic.{pointwise}
+use Rattle.it_types.specs.declared.id.CepId.{CepId}
 use Rattle.it_types.specs.declared.id.EndPt.{EndPt}
 use Rattle.it_types.specs.declared.handler.FnCode.{FnCode}
 use Rattle.it_types.specs.declared.handler.FnCode.TheVariants as functions
 use Rattle.it_types.specs.declared.request.Req.{Req}
+use Rattle.it_types.specs.declared.request.Req.TheVariants.{TcpSndDat, TcpSndBuf, UdpSndDat}
 use Rattle.it_types.specs.declared.timeout.Tmo.{Tmo}
 use Rattle.it_types.specs.declared.timeout.Tmo.TheVariants as timeouts
 use Rattle.it_types.specs.declared.calls.Word.{Word}
+use Rattle.it_types.specs.declared.calls.Word.TheVariants as words
 use Rattle.it_types.specs.declared.calls.TheConstants.{ALL_WORDS}
 use Rattle.it_types.specs.Address.{address_text, end_point_text}
 use Rattle.it_types.specs.Spelling.{timeout_text, mode_text, function_text}
@@ -26,16 +29,17 @@ use Rattle.it_types.specs.Lines.{call_word, call_fields_text, call_is_in_range, 
 use Rattle.it_types.proofs.Finding.{found_passes}
 use Rattle.it_types.proofs.LineLaws.{row}
 use Rattle.spec_script.specs.declared.script_line.ScriptLine.{ScriptLine}
-use Rattle.spec_script.specs.declared.script_line.ScriptLine.TheVariants.{Itron, Link, Ticks, FirstNode, SecondNode, Sem, Flg, Dtq, Task, Cyc, Cbr, Call, End}
-use Rattle.spec_script.specs.Lines.{choice_text, order_text, waiters_text, clearing_text, start_text, running_text, field, node_text, line_text, ended}
-use Rattle.spec_script.specs.Ranges.{within, is_at_most, is_node_in_range, is_in_range, data_limit, is_written_call}
-use Rattle.spec_script.specs.Today.{may_write}
+use Rattle.spec_script.specs.declared.script_line.ScriptLine.TheVariants.{Itron, Link, Ticks, FirstNode, SecondNode, Sem, Flg, Dtq, Task, Cyc, Cbr, Body, End}
+use Rattle.spec_script.specs.declared.decl.Line.{Line}
+use Rattle.spec_script.specs.declared.decl.Line.TheVariants.{Call, Fill, Loop, Pool, UntilEnd, UntilFail, UntilEmpty}
+use Rattle.spec_script.specs.Lines.{choice_text, order_text, waiters_text, clearing_text, start_text, running_text, field, node_text, data_field, destination_field, call_text, body_line_text, line_text, ended}
+use Rattle.spec_script.specs.Ranges.{within, is_at_most, are_parts_of_16, is_node_in_range, is_in_range, data_limit, may_stand, is_written_line}
 use Rattle.spec_script.specs.Text.{onto_first, split_lines}
 use Rattle.s_script.proofs.FirstLines.{is_no_lf}
 use Rattle.it_types.proofs.Numerals.{decimal_digits}
 use Rattle.it_types.proofs.HexWords.{hex_passes}
 use Rattle.s_script.proofs.LineTakes.{is_written}
-use Rattle.s_script.proofs.LineAgain.{in_bounds, at_most}
+use Rattle.s_script.proofs.LineAgain.{in_bounds, at_most, in_parts}
 
 -- ---- lines and their text
 
@@ -287,14 +291,82 @@ word_plain w = found_passes (λ v. pointwise nat_eq (word_text w) (word_text v))
 parts_plain : (limit : ℕ) (c : calls.Call) → call_is_in_range limit c ≡ true → is_plain (word_text (call_word c) ++ call_fields_text c) ≡ true
 parts_plain limit (Of w f) range = both_plain (word_text w) (fields_text (form_of w) f) (word_plain w) (fields_plain limit (form_of w) f range)
 
--- a call that can be written
-call_plain : (request : Req) → is_written_call request ≡ true → is_plain (line_text (Call request true)) ≡ true
-call_plain request written = parts_plain data_limit (parts_of request) (and_parts (may_write request) (is_writable data_limit request) written).1
+-- a field in its range
+field_plain : (k : Kind) (v : Value k) → Kinds.is_in_range data_limit k v ≡ true → is_plain (field_text k v) ≡ true
+unfolding field_text
+field_plain k v range = value_plain data_limit k v range
 
--- each line in its ranges, whose call can be written, is plain
+-- data, or buf
+data_plain : (buf : Bool) (load : List ℕ) → Kinds.is_in_range data_limit Load load ≡ true → is_plain (data_field buf load) ≡ true
+data_plain true load range = refl
+data_plain false load range = field_plain Load load range
+
+-- an end point, or peer
+destination_plain : (peer : Bool) (dest : EndPt) → Kinds.is_in_range data_limit Destination dest ≡ true → is_plain (destination_field peer dest) ≡ true
+destination_plain true dest range = refl
+destination_plain false dest range = field_plain Destination dest range
+
+-- the calls that send, each with its fields in their ranges
+send_plain : (cep : CepId) (load : List ℕ) (tmo : Tmo) (buf peer : Bool) → is_writable data_limit (TcpSndDat cep load tmo) ≡ true → is_plain (call_text (TcpSndDat cep load tmo) buf peer) ≡ true
+send_plain cep load tmo buf peer range =
+    let c = and_parts (Kinds.is_in_range data_limit Point cep) _ range in
+    let d = and_parts (Kinds.is_in_range data_limit Load load) _ c.1 in
+    let t = and_parts (Kinds.is_in_range data_limit Timeout tmo) true d.1 in
+    both_plain (word_text words.TcpSndDat) (field_text Point cep ++ (data_field buf load ++ field_text Timeout tmo)) (word_plain words.TcpSndDat)
+    (both_plain (field_text Point cep) (data_field buf load ++ field_text Timeout tmo) (field_plain Point cep c.0)
+    (both_plain (data_field buf load) (field_text Timeout tmo) (data_plain buf load d.0) (field_plain Timeout tmo t.0)))
+
+hand_over_plain : (cep : CepId) (load : List ℕ) (buf peer : Bool) → is_writable data_limit (TcpSndBuf cep load) ≡ true → is_plain (call_text (TcpSndBuf cep load) buf peer) ≡ true
+hand_over_plain cep load buf peer range =
+    let c = and_parts (Kinds.is_in_range data_limit Point cep) _ range in
+    let d = and_parts (Kinds.is_in_range data_limit Load load) true c.1 in
+    both_plain (word_text words.TcpSndBuf) (field_text Point cep ++ data_field buf load) (word_plain words.TcpSndBuf)
+    (both_plain (field_text Point cep) (data_field buf load) (field_plain Point cep c.0) (data_plain buf load d.0))
+
+datagram_plain : (cep : CepId) (dest : EndPt) (load : List ℕ) (tmo : Tmo) (buf peer : Bool) → is_writable data_limit (UdpSndDat cep dest load tmo) ≡ true
+    → is_plain (call_text (UdpSndDat cep dest load tmo) buf peer) ≡ true
+datagram_plain cep dest load tmo buf peer range =
+    let c = and_parts (Kinds.is_in_range data_limit Point cep) _ range in
+    let g = and_parts (Kinds.is_in_range data_limit Destination dest) _ c.1 in
+    let d = and_parts (Kinds.is_in_range data_limit Load load) _ g.1 in
+    let t = and_parts (Kinds.is_in_range data_limit Timeout tmo) true d.1 in
+    both_plain (word_text words.UdpSndDat) (field_text Point cep ++ (destination_field peer dest ++ (data_field buf load ++ field_text Timeout tmo))) (word_plain words.UdpSndDat)
+    (both_plain (field_text Point cep) (destination_field peer dest ++ (data_field buf load ++ field_text Timeout tmo)) (field_plain Point cep c.0)
+    (both_plain (destination_field peer dest) (data_field buf load ++ field_text Timeout tmo) (destination_plain peer dest g.0)
+    (both_plain (data_field buf load) (field_text Timeout tmo) (data_plain buf load d.0) (field_plain Timeout tmo t.0))))
+
+-- a call whose fields are in their ranges
+call_plain : (r : Req) (buf peer : Bool) → is_writable data_limit r ≡ true → is_plain (call_text r buf peer) ≡ true
+call_plain (TcpSndDat cep load tmo) buf peer range = send_plain cep load tmo buf peer range
+call_plain (TcpSndBuf cep load) buf peer range = hand_over_plain cep load buf peer range
+call_plain (UdpSndDat cep dest load tmo) buf peer range = datagram_plain cep dest load tmo buf peer range
+call_plain r buf peer range = parts_plain data_limit (parts_of r) range
+
+-- a line of a body that can be written
+body_plain : (line : Line) → is_written_line line ≡ true → is_plain (body_line_text line) ≡ true
+body_plain (Call r buf peer) written = call_plain r buf peer (and_parts (may_stand r buf peer) (is_writable data_limit r) written).1
+body_plain (Fill n) written = number_plain n (omega (arith, leb-true n 65280 written))
+body_plain (Loop n) written = number_plain n (omega (arith, leb-true n 65535 (and_parts (leb 1 n) (leb n 65535) written).1))
+body_plain Pool written = refl
+body_plain UntilEnd written = refl
+body_plain UntilFail written = refl
+body_plain UntilEmpty written = refl
+
+-- link KEY LOSE TWICE DELAY
+link_plain : (key lose twice delay : Option ℕ) → is_in_range (Link key lose twice delay) ≡ true → is_plain (line_text (Link key lose twice delay)) ≡ true
+link_plain key lose twice delay range =
+    let bounds = and_parts (within 0 key 18446744073709551615) _ range in
+    let others = and_parts (are_parts_of_16 lose twice) (within 0 delay 1000) bounds.1 in
+    in_bounds 0 key 18446744073709551615 bounds.0 λ k e x.
+    in_parts lose twice others.0 λ m n f g y.
+    in_bounds 0 delay 1000 others.1 λ d h z.
+    rw (e, f, g, h) (then_plain k (field (decimal m) ++ (field (decimal n) ++ field (decimal d))) (omega arith)
+    (then_plain m (field (decimal n) ++ field (decimal d)) (omega arith) (then_plain n (field (decimal d)) (omega arith) (number_plain d (omega arith)))))
+
+-- each line in its ranges, which can be written if it is one of a body, is plain
 pub line_plain : (l : ScriptLine) → is_in_range l ≡ true → is_written l ≡ true → is_plain (line_text l) ≡ true
 line_plain Itron range written = refl
-line_plain (Link key) range written = in_bounds 0 key 18446744073709551615 range λ k e high. rw e (then_plain k (codes " 0 0 0") (omega arith) refl)
+line_plain (Link key lose twice delay) range written = link_plain key lose twice delay range
 line_plain (Ticks ticks) range written = in_bounds 0 ticks 400000 range λ t e high. rw e (number_plain t (omega arith))
 line_plain (FirstNode n) range written = node_plain n.addr n.isn0 n.top0 range
 line_plain (SecondNode n) range written = node_plain n.addr n.isn0 n.top0 range
@@ -304,5 +376,5 @@ line_plain (Dtq id pri cap) range written = dtq_plain id pri cap range
 line_plain (Task id pri act) range written = task_plain id pri act range
 line_plain (Cyc id period phase on) range written = cyc_plain id period phase on range
 line_plain (Cbr id) range written = cbr_plain id range
-line_plain (Call request fits) range written = call_plain request written
+line_plain (Body line fits) range written = body_plain line written
 line_plain End range written = refl

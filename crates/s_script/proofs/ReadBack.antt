@@ -5,8 +5,9 @@ use Rattle.std.proofs.lemmas.Bool.{cases_Bool}
 use Rattle.std.proofs.lemmas.List.{append-nil}
 use Rattle.spec_script.specs.declared.script.Script.{Script}
 use Rattle.spec_script.specs.declared.script_line.ScriptLine.{ScriptLine}
-use Rattle.spec_script.specs.Lines.{ended, spelled, line_text, lines_of}
+use Rattle.spec_script.specs.Lines.{ended, spelled, line_text, lines_of, script_text}
 use Rattle.spec_script.specs.Text.{split_lines, is_skipped, without_skipped, IsReadAs}
+use Rattle.spec_script.specs.Ranges.{IsGood}
 use Rattle.s_script.specs.declared.read_bad.Why.{Why}
 use Rattle.s_script.specs.declared.draft.Draft.{Draft}
 use Rattle.s_script.specs.Drafts.{start, moved}
@@ -15,6 +16,7 @@ use Rattle.s_script.proofs.Kept.{Passes, no_cause}
 use Rattle.s_script.proofs.Led.{is_kept, took, made, read_as}
 use Rattle.s_script.proofs.LineTakes.{is_written}
 use Rattle.s_script.proofs.EachAgain.{line_again}
+use Rattle.s_script.proofs.Counted.{line_counted}
 use Rattle.s_script.proofs.Plain.{is_plain, split_joined, split_plain, filter_plain, line_plain}
 use Rattle.s_script.proofs.ScriptRuns.{Runs, Makes, script_runs}
 
@@ -112,3 +114,23 @@ not_read text wrong e s r = let both : made s ≡ Err wrong = sym (read_back tex
 -- both ways
 pub reads : (text : List ℕ) (s : Script) → (read_text text ≡ Ok s) ↔ IsReadAs text s
 reads text s = (read_as text s, read_back text s)
+
+-- ---- what is printed is read
+
+-- no line of a script's text is skipped
+all_counted : (ls : List ScriptLine) → filter is_kept (texts_of ls) ≡ texts_of ls
+all_counted [] = refl
+all_counted (l ∷ ls) = rw (line_counted l) (ap (λ (ts : List (List ℕ)). line_text l ∷ ts) (all_counted ls))
+
+-- the printed form of a good script is read as that script
+pub printed_is_read : (s : Script) → IsGood s → read_text (script_text s) ≡ Ok s
+printed_is_read s good =
+    let plain = texts_plain (Makes s) start (lines_of s) (script_runs s good) in
+    let split : ◌≡◌ {A = List (List ℕ) × List ℕ} (split_lines (script_text s)) (texts_of (lines_of s), []) =
+    ap split_lines (sym (spelled_lines (lines_of s)) ∙ sym (append-nil (flat_map ended (texts_of (lines_of s))))) ∙ split_joined (texts_of (lines_of s)) [] plain refl in
+    let form : without_skipped (script_text s) ≡ script_text s =
+    ap (λ (x : List (List ℕ) × List ℕ). flat_map ended (filter is_kept x.0) ++ x.1) split
+    ∙ append-nil (flat_map ended (filter is_kept (texts_of (lines_of s))))
+    ∙ ap (λ (ts : List (List ℕ)). flat_map ended ts) (all_counted (lines_of s))
+    ∙ spelled_lines (lines_of s) in
+    read_back (script_text s) s (record { form = form; good = good })

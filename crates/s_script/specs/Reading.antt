@@ -27,6 +27,16 @@ with_line d (Some l) = with_cause d l (cause d l)
 unfoldable pub take_line : Draft → List ℕ → Result Draft Why
 take_line d bytes = if is_skipped bytes then Ok d else with_line d (line_of bytes)
 
+-- what follows a line that was taken
+abbrev pub and_next : Result Draft Why → (Draft → Result Draft Why) → Result Draft Why
+and_next (Ok d) next = next d
+and_next (Err why) next = Err why
+
+-- the draft after lines of the text, one after another
+unfoldable pub draft_after : Draft → List (List ℕ) → Result Draft Why
+draft_after d [] = Ok d
+draft_after d (line ∷ lines) = and_next (take_line d line) (λ next. draft_after next lines)
+
 -- node 1 has begun, and no body is open
 abbrev pub is_whole : Stage → Bool → Bool
 is_whole stages.Declares last = last

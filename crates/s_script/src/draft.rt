@@ -1,7 +1,7 @@
-ghost use Rattle.std.specs.Prelude.{◌≡◌, true, [], OnOk};
+ghost use Rattle.std.specs.Prelude.{◌≡◌, true, [], None, OnOk};
 ghost use Rattle.spec_script.specs.Lines.{no_node};
-ghost use Rattle.spec_script.specs.Ranges.{is_node_in_range, is_in_range};
-ghost use Rattle.s_script.specs.Drafts.{start, is_last, in_place, has_room, is_declared, cause, node_of, with_object, opened, with_call, moved};
+ghost use Rattle.spec_script.specs.Ranges.{is_node_in_range, is_in_range, may_nest, depth_after};
+ghost use Rattle.s_script.specs.Drafts.{start, is_last, in_place, has_room, is_declared, nests, cause, node_of, with_object, opened, with_body_line, moved};
 
 use crate::Why;
 use crate::declaration::{
@@ -11,13 +11,16 @@ use crate::declaration::{
 };
 use crate::owner::Owner;
 use crate::ranges::is_in_range;
-use it_types::{List, NoMemory, Req, TaskDecl};
+use it_types::{List, NoMemory, TaskDecl};
 use spec_script::{Body, Decl, Line, NodeDecl, NodeLine, ScriptLine};
 use std::alloc::Global;
 use std::mem;
 
 /// The greatest number of lines of a body.
 const BODY_LIMIT: usize = 1000;
+
+/// The greatest number of loops that are open at once.
+const LOOP_LIMIT: usize = 4;
 
 /// How far a script has come: what the next line may be.
 #[derive(Clone, Copy, Debug, PartialEq, Eq)]
@@ -40,7 +43,8 @@ pub enum Stage {
 #[derive(Debug, Drop)]
 pub struct Draft {
     pub stage: Stage,
-    pub key: u64,
+    /// The numbers of the link's line.
+    pub link: [u64; 4],
     pub ticks: u32,
     /// Node 0, once node 1 has begun.
     pub first: Option<NodeDecl>,
@@ -49,6 +53,8 @@ pub struct Draft {
     /// Whose body is open, and that body.
     pub owner: Owner,
     pub body: List<Line>,
+    /// How many loops of the body are open.
+    pub depth: usize,
 }
 
 fn no_node(alloc: Global) -> NodeDecl
@@ -90,9 +96,33 @@ fn in_place(stage: Stage, last: bool, owner: Owner, line: &ScriptLine) -> bool
         (Stage::Declares, ScriptLine::Cyc { .. }) => true,
         (Stage::Declares, ScriptLine::Cbr { .. }) => true,
         (Stage::Declares, ScriptLine::SecondNode(_)) => !last,
-        (Stage::InBody, ScriptLine::Call { req, .. }) => owner.may_call(req),
+        (Stage::InBody, ScriptLine::Body { line, .. }) => owner.may_have(line),
         (Stage::InBody, ScriptLine::End) => true,
         _ => false,
+    }
+}
+
+/// Whether the line may stand where so many loops are open.
+fn may_nest(depth: usize, line: &Line) -> bool
+    ensures { result ≡ may_nest depth line.now }
+{
+    match line {
+        Line::Loop(_) => depth < LOOP_LIMIT,
+        Line::Pool | Line::UntilEnd | Line::UntilFail | Line::UntilEmpty => depth > 0,
+        Line::Call { .. } | Line::Fill(_) => true,
+    }
+}
+
+/// How many loops are open after the line.
+fn depth_after(depth: usize, line: &Line) -> usize
+    requires { may_nest depth line.now ≡ true }
+    ensures { result ≡ depth_after depth line.now }
+{
+    match line {
+        Line::Loop(_) => depth + 1,
+        Line::Pool => depth - 1,
+        Line::Call { .. } | Line::Fill(_) | Line::UntilEnd | Line::UntilFail | Line::UntilEmpty =>
+            depth,
     }
 }
 
@@ -103,7 +133,7 @@ impl Draft {
     {
         Draft {
             stage: Stage::Start,
-            key: 0,
+            link: [0; 4],
             ticks: 0,
             first: None,
             node: no_node(alloc),
@@ -113,6 +143,7 @@ impl Draft {
                 act: true,
             }),
             body: List::new(alloc),
+            depth: 0,
         }
     }
 
@@ -128,7 +159,7 @@ impl Draft {
     {
         match line {
             ScriptLine::SecondNode(node) => node.addr.unwrap_or(0) != self.node.addr,
-            ScriptLine::Call { .. } => self.body.len() < BODY_LIMIT,
+            ScriptLine::Body { .. } => self.body.len() < BODY_LIMIT,
             ScriptLine::Itron
             | ScriptLine::Link { .. }
             | ScriptLine::Ticks { .. }
@@ -159,8 +190,28 @@ impl Draft {
             | ScriptLine::Ticks { .. }
             | ScriptLine::FirstNode(_)
             | ScriptLine::SecondNode(_)
-            | ScriptLine::Call { .. }
+            | ScriptLine::Body { .. }
             | ScriptLine::End => false,
+        }
+    }
+
+    fn nests(&self, line: &ScriptLine) -> bool
+        ensures { result ≡ nests self.now line.now }
+    {
+        match line {
+            ScriptLine::Body { line, .. } => may_nest(self.depth, line),
+            ScriptLine::End => self.depth == 0,
+            ScriptLine::Itron
+            | ScriptLine::Link { .. }
+            | ScriptLine::Ticks { .. }
+            | ScriptLine::FirstNode(_)
+            | ScriptLine::SecondNode(_)
+            | ScriptLine::Sem { .. }
+            | ScriptLine::Flg { .. }
+            | ScriptLine::Dtq { .. }
+            | ScriptLine::Task { .. }
+            | ScriptLine::Cyc { .. }
+            | ScriptLine::Cbr { .. } => true,
         }
     }
 
@@ -174,16 +225,29 @@ impl Draft {
             Some(Why::Range)
         } else if self.is_declared(line) {
             Some(Why::Twice)
+        } else if !self.nests(line) {
+            Some(Why::Nest)
         } else {
             None
         }
     }
 
-    fn set_key(&mut self, key: Option<u64>)
-        ensures { self.new ≡ moved self.old (ScriptLine.Link key) }
+    fn set_link(
+        &mut self,
+        key: Option<u64>,
+        lose: Option<u64>,
+        twice: Option<u64>,
+        delay: Option<u64>,
+    )
+        ensures { self.new ≡ moved self.old (ScriptLine.Link key lose twice delay) }
     {
         self.stage = Stage::Linked;
-        self.key = key.unwrap_or(0);
+        self.link = [
+            key.unwrap_or(0),
+            lose.unwrap_or(0),
+            twice.unwrap_or(0),
+            delay.unwrap_or(0),
+        ];
     }
 
     fn set_ticks(&mut self, ticks: Option<u64>)
@@ -217,6 +281,7 @@ impl Draft {
         self.stage = Stage::InBody;
         self.owner = owner;
         self.body = List::new(alloc);
+        self.depth = 0;
     }
 
     fn add_object(&mut self, decl: Decl) -> Result<(), NoMemory>
@@ -227,11 +292,13 @@ impl Draft {
         Ok(())
     }
 
-    fn add_call(&mut self, req: Req) -> Result<(), NoMemory>
-        ensures { OnOk result (self.new ≡ with_call self.old req) }
+    fn add_body_line(&mut self, line: Line) -> Result<(), NoMemory>
+        requires { may_nest self.old.depth line ≡ true }
+        ensures { OnOk result (self.new ≡ with_body_line self.old line) }
     {
         self.stage = Stage::InBody;
-        self.body.push(Line::Call { req })?;
+        self.depth = depth_after(self.depth, &line);
+        self.body.push(line)?;
         Ok(())
     }
 
@@ -240,17 +307,23 @@ impl Draft {
     {
         let lines = mem::replace(&mut self.body, List::new(alloc));
         let declaration = self.owner.declaration(Body { lines });
+        self.depth = 0;
         self.add_object(declaration)
     }
 
     /// Adds the line, which has no cause to be refused. Without memory the draft has no meaning.
     pub fn add(&mut self, alloc: Global, line: ScriptLine) -> Result<(), NoMemory>
-        requires { is_in_range line ≡ true }
+        requires { cause self.old line ≡ None }
         ensures { OnOk result (self.new ≡ moved self.old line) }
     {
         match line {
             ScriptLine::Itron => self.stage = Stage::Headed,
-            ScriptLine::Link { key } => self.set_key(key),
+            ScriptLine::Link {
+                key,
+                lose,
+                twice,
+                delay,
+            } => self.set_link(key, lose, twice, delay),
             ScriptLine::Ticks { ticks } => self.set_ticks(ticks),
             ScriptLine::FirstNode(node) => self.begin_first(alloc, node),
             ScriptLine::SecondNode(node) => self.begin_second(alloc, node),
@@ -277,7 +350,7 @@ impl Draft {
                 on,
             } => self.open(alloc, Owner::Cyc(cyclic_of(id, period, phase, on))),
             ScriptLine::Cbr { id } => self.open(alloc, Owner::Cbr(routine_of(id))),
-            ScriptLine::Call { req, fits: _ } => self.add_call(req)?,
+            ScriptLine::Body { line, fits: _ } => self.add_body_line(line)?,
             ScriptLine::End => self.close(alloc)?,
         }
         Ok(())

@@ -11,8 +11,9 @@ mod print;
 mod ranges;
 mod read_bad;
 mod reader;
+mod sending;
 
 pub use conf::conf_of;
 pub use print::print_into;
 pub use read_bad::{ReadBad, Why};
-pub use reader::{first_wrong, read, reading};
+pub use reader::{first_wrong, printing, read, reading};

@@ -1,16 +1,22 @@
 ghost use Rattle.std.specs.Prelude.{◌≡◌, IfOk};
 ghost use Rattle.it_types.specs.Cursor.{Gives};
-ghost use Rattle.s_script.specs.LineKinds.{itron_line, link_line, ticks_line, node_at, first_node_line, second_node_line, either_node_line, number_field, choice_at, choice_field, order_field, sem_line, flg_line, dtq_line, task_line, cyc_line, cbr_line, end_line, kinds, by_word, call_line, line_of};
+ghost use Rattle.it_types.specs.Numbers.{below_or_0};
+ghost use Rattle.s_script.specs.LineKinds.{itron_line, link_line, ticks_line, node_at, first_node_line, second_node_line, either_node_line, number_field, choice_at, choice_field, order_field, sem_line, flg_line, dtq_line, task_line, cyc_line, cbr_line, fill_line, loop_line, line_by, until_line, kinds, by_word, call_line, line_of};
 
+use crate::ranges::is_within;
+use crate::sending::{DATA_LIMIT, sender_line};
 use it_types::NoMemory;
 use it_types::cursor::{after, at_end, is_word, split_word};
 use it_types::numbers::{address_at, number_at};
 use it_types::reading::call_of;
-use spec_script::{NodeLine, ScriptLine, may_write};
+use spec_script::{Line, NodeLine, ScriptLine};
 use std::alloc::Global;
 
-/// The most bytes of data of a call.
-const DATA_LIMIT: usize = 1024;
+/// The most bytes that `fill` sets the buffer to.
+const MAX_FILL: u32 = 65280;
+
+/// The most rounds of a loop.
+const MAX_ROUNDS: u32 = 65535;
 
 #[tactic(auto, unfolding(it_types::specs::Cursor::and_then, crate::specs::LineKinds::itron_line))]
 fn itron_line(bytes: &[u8]) -> Option<ScriptLine>
@@ -24,10 +30,19 @@ fn itron_line(bytes: &[u8]) -> Option<ScriptLine>
 fn link_line(bytes: &[u8]) -> Option<ScriptLine>
     ensures { result ≡ link_line bytes.now }
 {
-    let rest = after(b" ", bytes)?;
-    let (key, rest) = number_at(rest)?;
-    let rest = after(b" 0 0 0", rest)?;
-    at_end(rest, ScriptLine::Link { key })
+    let (key, rest) = number_field(bytes)?;
+    let (lose, rest) = number_field(rest)?;
+    let (twice, rest) = number_field(rest)?;
+    let (delay, rest) = number_field(rest)?;
+    at_end(
+        rest,
+        ScriptLine::Link {
+            key,
+            lose,
+            twice,
+            delay,
+        },
+    )
 }
 
 #[tactic(auto, unfolding(it_types::specs::Cursor::and_then, crate::specs::LineKinds::ticks_line))]
@@ -191,6 +206,58 @@ fn cbr_line(bytes: &[u8]) -> Option<ScriptLine>
     at_end(rest, ScriptLine::Cbr { id })
 }
 
+/// The number, where it is below the limit; otherwise 0.
+fn below_or_0(limit: u32, number: Option<u64>) -> u32
+    ensures { result ≡ below_or_0 limit number }
+{
+    match number {
+        Some(number) if number < u64::from(limit) => number as u32,
+        Some(_) | None => 0,
+    }
+}
+
+#[tactic(auto, unfolding(it_types::specs::Cursor::and_then, crate::specs::LineKinds::fill_line))]
+fn fill_line(bytes: &[u8]) -> Option<ScriptLine>
+    ensures { result ≡ fill_line bytes.now }
+{
+    let (size, rest) = number_field(bytes)?;
+    let line = Line::Fill(below_or_0(MAX_FILL + 1, size));
+    let fits = is_within(0, size, u64::from(MAX_FILL));
+    at_end(rest, ScriptLine::Body { line, fits })
+}
+
+#[tactic(auto, unfolding(it_types::specs::Cursor::and_then, crate::specs::LineKinds::loop_line))]
+fn loop_line(bytes: &[u8]) -> Option<ScriptLine>
+    ensures { result ≡ loop_line bytes.now }
+{
+    let (rounds, rest) = number_field(bytes)?;
+    let line = Line::Loop(below_or_0(MAX_ROUNDS + 1, rounds));
+    let fits = is_within(1, rounds, u64::from(MAX_ROUNDS));
+    at_end(rest, ScriptLine::Body { line, fits })
+}
+
+/// The line of a body that these bytes alone tell.
+#[tactic(auto, unfolding(it_types::specs::Cursor::and_then, crate::specs::LineKinds::line_by))]
+fn line_by(word: &[u8], line: Line, bytes: &[u8]) -> Option<ScriptLine>
+    ensures { result ≡ line_by word.now line bytes.now }
+{
+    let rest = after(word, bytes)?;
+    at_end(rest, ScriptLine::Body { line, fits: true })
+}
+
+#[tactic(auto, unfolding(crate::specs::LineKinds::until_line))]
+fn until_line(bytes: &[u8]) -> Option<ScriptLine>
+    ensures { result ≡ until_line bytes.now }
+{
+    if let Some(line) = line_by(b" end", Line::UntilEnd, bytes) {
+        Some(line)
+    } else if let Some(line) = line_by(b" fail", Line::UntilFail, bytes) {
+        Some(line)
+    } else {
+        line_by(b" empty", Line::UntilEmpty, bytes)
+    }
+}
+
 /// The line that begins with the word and goes on with the bytes, where it is no call.
 fn other_line(word: &[u8], bytes: &[u8]) -> Option<ScriptLine>
     ensures { result ≡ by_word kinds word.now bytes.now }
@@ -215,6 +282,20 @@ fn other_line(word: &[u8], bytes: &[u8]) -> Option<ScriptLine>
         cyc_line(bytes)
     } else if is_word(word, b"cbr") {
         cbr_line(bytes)
+    } else if is_word(word, b"fill") {
+        fill_line(bytes)
+    } else if is_word(word, b"loop") {
+        loop_line(bytes)
+    } else if is_word(word, b"pool") {
+        at_end(
+            bytes,
+            ScriptLine::Body {
+                line: Line::Pool,
+                fits: true,
+            },
+        )
+    } else if is_word(word, b"until") {
+        until_line(bytes)
     } else if is_word(word, b"end") {
         at_end(bytes, ScriptLine::End)
     } else {
@@ -222,16 +303,18 @@ fn other_line(word: &[u8], bytes: &[u8]) -> Option<ScriptLine>
     }
 }
 
-/// The call that the bytes are read as, where a script may write it.
 fn call_line(alloc: Global, bytes: &[u8]) -> Result<Option<ScriptLine>, NoMemory>
     ensures { IfOk result (λ line. line ≡ call_line bytes.now) }
 {
     match call_of(alloc, DATA_LIMIT, bytes)? {
-        Some((req, fits)) => Ok(if may_write(&req) {
-            Some(ScriptLine::Call { req, fits })
-        } else {
-            None
-        }),
+        Some((req, fits)) => Ok(Some(ScriptLine::Body {
+            line: Line::Call {
+                req,
+                buf: false,
+                peer: false,
+            },
+            fits,
+        })),
         None => Ok(None),
     }
 }
@@ -242,7 +325,10 @@ pub fn line_of(alloc: Global, bytes: &[u8]) -> Result<Option<ScriptLine>, NoMemo
     ensures { IfOk result (λ line. line ≡ line_of bytes.now) }
 {
     let (word, rest) = split_word(bytes);
-    match other_line(word, rest) {
+    if let Some(line) = other_line(word, rest) {
+        return Ok(Some(line));
+    }
+    match sender_line(alloc, word, rest)? {
         Some(line) => Ok(Some(line)),
         None => call_line(alloc, bytes),
     }

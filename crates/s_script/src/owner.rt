@@ -1,8 +1,9 @@
 ghost use Rattle.std.specs.Prelude.{◌≡◌};
-ghost use Rattle.s_script.specs.Owners.{may_call, declaration_of};
+ghost use Rattle.s_script.specs.Owners.{may_have, declaration_of};
+ghost use Rattle.spec_script.specs.Ranges.{is_exit_line};
 
 use it_types::{CycDecl, ObjId, Req, TaskDecl};
-use spec_script::{Body, Decl, is_exit};
+use spec_script::{Body, Decl, Line};
 
 /// What a body is declared with.
 #[derive(Clone, Copy, Debug)]
@@ -12,14 +13,27 @@ pub enum Owner {
     Cbr(ObjId),
 }
 
+/// Whether the line is `ext_tsk`, with which a task ends.
+fn is_exit_line(line: &Line) -> bool
+    ensures { result ≡ is_exit_line line.now }
+{
+    matches!(
+        line,
+        Line::Call {
+            req: Req::ExtTsk,
+            ..
+        }
+    )
+}
+
 impl Owner {
-    /// Whether its body may have the call: that of a handler has no `ext_tsk`.
-    pub fn may_call(self, request: &Req) -> bool
-        ensures { result ≡ may_call self request.now }
+    /// Whether its body may have the line: that of a handler has no `ext_tsk`.
+    pub fn may_have(self, line: &Line) -> bool
+        ensures { result ≡ may_have self line.now }
     {
         match self {
             Owner::Task(_) => true,
-            Owner::Cyc(_) | Owner::Cbr(_) => !is_exit(request),
+            Owner::Cyc(_) | Owner::Cbr(_) => !is_exit_line(line),
         }
     }
 

@@ -1,18 +1,33 @@
-ghost use Rattle.std.specs.Prelude.{◌≡◌, [], ◌∷◌, ◌++◌, OnOk, OnErr, map};
+ghost use Rattle.std.specs.Prelude.{◌≡◌, false, [], ◌∷◌, ◌++◌, OnOk, OnErr, map, decimal};
 ghost use Rattle.std.specs.List.{flat_map};
-ghost use Rattle.spec_script.specs.Lines.{choice_text, order_text, field, ended, spelled, node_text, body_line, declaration_lines, first_node, second_node, head_lines, node_line, script_text};
+ghost use Rattle.it_types.specs.Kinds.{Point, Timeout};
+ghost use Rattle.it_types.specs.Fields.{field_text};
+ghost use Rattle.spec_script.specs.Lines.{choice_text, order_text, field, data_field, destination_field, call_text, ended, spelled, node_text, link_line, body_line, declaration_lines, first_node, second_node, head_lines, node_line, script_text};
 
-use it_types::words::{put_address, put_number, put_numbered, put_word};
-use it_types::{CycDecl, DtqDecl, FlgDecl, NoMemory, ObjId, SemDecl, TaskDecl, spell_into};
+use it_types::words::{put_address, put_end_point, put_hex, put_number, put_numbered, put_word};
+use it_types::{
+    Bytes, CepId, CycDecl, DtqDecl, EndPt, FlgDecl, NoMemory, ObjId, Req, SemDecl, TaskDecl, Tmo,
+    spell_into,
+};
 use spec_script::{Body, Decl, Line, NodeDecl, Script, ScriptLine};
 use std::alloc::Global;
 
-fn put_link(out: &mut Vec<u8>, key: u64) -> Result<(), NoMemory>
-    ensures { OnOk result (out.new.items ≡ out.old.items ++ spelled (ScriptLine.Link (Some key))) }
+fn put_field(out: &mut Vec<u8>, number: u64) -> Result<(), NoMemory>
+    ensures { OnOk result (out.new.items ≡ out.old.items ++ field (decimal number)) }
 {
-    put_word(out, b"link ")?;
-    put_number(out, key)?;
-    put_word(out, b" 0 0 0\n")
+    put_word(out, b" ")?;
+    put_number(out, number)
+}
+
+fn put_link(out: &mut Vec<u8>, link: [u64; 4]) -> Result<(), NoMemory>
+    ensures { OnOk result (out.new.items ≡ out.old.items ++ spelled (link_line link)) }
+{
+    put_word(out, b"link")?;
+    put_field(out, link[0])?;
+    put_field(out, link[1])?;
+    put_field(out, link[2])?;
+    put_field(out, link[3])?;
+    put_word(out, b"\n")
 }
 
 fn put_ticks(out: &mut Vec<u8>, ticks: u32) -> Result<(), NoMemory>
@@ -115,11 +130,140 @@ fn put_routine(out: &mut Vec<u8>, cbr: ObjId) -> Result<(), NoMemory>
     put_word(out, b"\n")
 }
 
+#[tactic(auto, unfolding(it_types::specs::Fields::field_text))]
+fn put_data(out: &mut Vec<u8>, buf: bool, load: &Bytes) -> Result<(), NoMemory>
+    ensures { OnOk result (out.new.items ≡ out.old.items ++ data_field buf load.now) }
+{
+    if buf {
+        return put_word(out, b" buf");
+    }
+    put_word(out, b" x")?;
+    put_hex(out, load.as_slice())
+}
+
+#[tactic(auto, unfolding(it_types::specs::Fields::field_text))]
+fn put_destination(out: &mut Vec<u8>, peer: bool, dest: EndPt) -> Result<(), NoMemory>
+    ensures { OnOk result (out.new.items ≡ out.old.items ++ destination_field peer dest) }
+{
+    if peer {
+        put_word(out, b" peer")
+    } else {
+        put_end_point(out, b" ", dest)
+    }
+}
+
+#[tactic(auto, unfolding(it_types::specs::Fields::field_text))]
+fn put_timeout(out: &mut Vec<u8>, tmo: Tmo) -> Result<(), NoMemory>
+    ensures { OnOk result (out.new.items ≡ out.old.items ++ field_text Timeout tmo) }
+{
+    match tmo {
+        Tmo::Pol => put_word(out, b" pol"),
+        Tmo::Nblk => put_word(out, b" nblk"),
+        Tmo::Fevr => put_word(out, b" fevr"),
+        Tmo::Ms(ticks) => put_numbered(out, b" ", ticks),
+    }
+}
+
+/// Appends the data and the time-out.
+fn put_payload(out: &mut Vec<u8>, buf: bool, load: &Bytes, tmo: Tmo) -> Result<(), NoMemory>
+    ensures { OnOk result (out.new.items ≡ out.old.items ++ (data_field buf load.now ++ field_text Timeout tmo)) }
+{
+    put_data(out, buf, load)?;
+    put_timeout(out, tmo)
+}
+
+/// Appends the word and the end point.
+#[tactic(auto, unfolding(it_types::specs::Fields::field_text))]
+fn put_point(out: &mut Vec<u8>, word: &[u8], cep: CepId) -> Result<(), NoMemory>
+    ensures { OnOk result (out.new.items ≡ out.old.items ++ (word.now ++ field_text Point cep)) }
+{
+    put_word(out, word)?;
+    put_numbered(out, b" ", cep.0)
+}
+
+#[tactic(auto, unfolding(it_types::specs::Requests::word_text))]
+fn put_send(
+    out: &mut Vec<u8>,
+    cep: CepId,
+    load: &Bytes,
+    tmo: Tmo,
+    buf: bool,
+) -> Result<(), NoMemory>
+    ensures { OnOk result (out.new.items ≡ out.old.items ++ call_text (Req.TcpSndDat cep load.now tmo) buf false) }
+{
+    put_point(out, b"tcp_snd_dat", cep)?;
+    put_payload(out, buf, load, tmo)
+}
+
+fn put_hand_over(out: &mut Vec<u8>, cep: CepId, load: &Bytes, buf: bool) -> Result<(), NoMemory>
+    ensures { OnOk result (out.new.items ≡ out.old.items ++ call_text (Req.TcpSndBuf cep load.now) buf false) }
+{
+    put_point(out, b"tcp_snd_buf", cep)?;
+    put_data(out, buf, load)
+}
+
+/// Appends the word, the end point and the destination.
+fn put_target(
+    out: &mut Vec<u8>,
+    word: &[u8],
+    cep: CepId,
+    dest: EndPt,
+    peer: bool,
+) -> Result<(), NoMemory>
+    ensures { OnOk result (out.new.items ≡ out.old.items ++ (word.now ++ (field_text Point cep ++ destination_field peer dest))) }
+{
+    put_point(out, word, cep)?;
+    put_destination(out, peer, dest)
+}
+
+fn put_datagram(
+    out: &mut Vec<u8>,
+    cep: CepId,
+    dest: EndPt,
+    load: &Bytes,
+    tmo: Tmo,
+    buf: bool,
+    peer: bool,
+) -> Result<(), NoMemory>
+    ensures { OnOk result (out.new.items ≡ out.old.items ++ call_text (Req.UdpSndDat cep dest load.now tmo) buf peer) }
+{
+    put_target(out, b"udp_snd_dat", cep, dest, peer)?;
+    put_payload(out, buf, load, tmo)
+}
+
+fn put_call(
+    alloc: Global,
+    out: &mut Vec<u8>,
+    req: &Req,
+    buf: bool,
+    peer: bool,
+) -> Result<(), NoMemory>
+    ensures { OnOk result (out.new.items ≡ out.old.items ++ call_text req.now buf peer) }
+{
+    match req {
+        Req::TcpSndDat { cep, load, tmo } => put_send(out, *cep, load, *tmo, buf),
+        Req::TcpSndBuf { cep, load } => put_hand_over(out, *cep, load, buf),
+        Req::UdpSndDat {
+            cep,
+            dest,
+            load,
+            tmo,
+        } => put_datagram(out, *cep, *dest, load, *tmo, buf, peer),
+        _ => spell_into(alloc, req, out),
+    }
+}
+
 fn put_body_line(alloc: Global, out: &mut Vec<u8>, line: &Line) -> Result<(), NoMemory>
     ensures { OnOk result (out.new.items ≡ out.old.items ++ spelled (body_line line.now)) }
 {
     match line {
-        Line::Call { req } => spell_into(alloc, req, out)?,
+        Line::Call { req, buf, peer } => put_call(alloc, out, req, *buf, *peer)?,
+        Line::Fill(bytes) => put_numbered(out, b"fill ", *bytes)?,
+        Line::Loop(rounds) => put_numbered(out, b"loop ", *rounds)?,
+        Line::Pool => put_word(out, b"pool")?,
+        Line::UntilEnd => put_word(out, b"until end")?,
+        Line::UntilFail => put_word(out, b"until fail")?,
+        Line::UntilEmpty => put_word(out, b"until empty")?,
     }
     put_word(out, b"\n")
 }
@@ -188,7 +332,7 @@ fn put_head(out: &mut Vec<u8>, s: &Script) -> Result<(), NoMemory>
     ensures { OnOk result (out.new.items ≡ out.old.items ++ flat_map spelled (head_lines s.now)) }
 {
     put_word(out, b"itron 1\n")?;
-    put_link(out, s.link[0])?;
+    put_link(out, s.link)?;
     put_ticks(out, s.ticks)?;
     put_first_node(out, first_node(s))
 }

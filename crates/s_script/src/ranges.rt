@@ -1,5 +1,5 @@
 ghost use Rattle.std.specs.Prelude.{◌≡◌};
-ghost use Rattle.spec_script.specs.Ranges.{within, is_at_most, is_node_in_range, is_in_range};
+ghost use Rattle.spec_script.specs.Ranges.{within, is_at_most, are_parts_of_16, is_node_in_range, is_in_range};
 
 use spec_script::{NodeLine, ScriptLine};
 
@@ -27,6 +27,12 @@ const MAX_TICKS: u64 = 400000;
 /// The greatest position at which a line of sequence positions begins.
 const MAX_TOP: u64 = 2000000000;
 
+/// A link's fates are told in parts of so many packets.
+const PARTS: u64 = 16;
+
+/// The greatest delay of a link, in ticks.
+const MAX_DELAY: u64 = 1000;
+
 /// The greatest number of 32 bits.
 const MAX_U32: u64 = 4294967295;
 
@@ -49,6 +55,16 @@ fn is_at_most(number: Option<u64>, other: Option<u64>) -> bool
     }
 }
 
+/// Whether the link loses so many of 16 packets, and brings so many others twice.
+fn are_parts(lose: Option<u64>, twice: Option<u64>) -> bool
+    ensures { result ≡ are_parts_of_16 lose twice }
+{
+    match (lose, twice) {
+        (Some(lose), Some(twice)) => lose <= PARTS && twice <= PARTS - lose,
+        (None, _) | (_, None) => false,
+    }
+}
+
 fn is_node_in_range(node: NodeLine) -> bool
     ensures { result ≡ is_node_in_range node }
 {
@@ -63,7 +79,16 @@ pub fn is_in_range(line: &ScriptLine) -> bool
     ensures { result ≡ is_in_range line.now }
 {
     match line {
-        ScriptLine::Link { key } => is_within(0, *key, u64::MAX),
+        ScriptLine::Link {
+            key,
+            lose,
+            twice,
+            delay,
+        } => {
+            is_within(0, *key, u64::MAX)
+                && are_parts(*lose, *twice)
+                && is_within(0, *delay, MAX_DELAY)
+        }
         ScriptLine::Ticks { ticks } => is_within(0, *ticks, MAX_TICKS),
         ScriptLine::FirstNode(node) | ScriptLine::SecondNode(node) => is_node_in_range(*node),
         ScriptLine::Sem { id, init, max, .. } => {
@@ -89,7 +114,7 @@ pub fn is_in_range(line: &ScriptLine) -> bool
                 && is_within(0, *phase, MAX_PERIOD)
         }
         ScriptLine::Cbr { id } => is_within(1, *id, MAX_ID),
-        ScriptLine::Call { fits, .. } => *fits,
+        ScriptLine::Body { fits, .. } => *fits,
         ScriptLine::Itron | ScriptLine::End => true,
     }
 }

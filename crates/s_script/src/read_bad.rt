@@ -6,10 +6,12 @@ ghost use Rattle.s_script.specs.declared.read_bad.ReadBad.TheVariants as bad;
 pub enum Why {
     /// It is no line, or no line that can stand in this place.
     Form,
-    /// A number is out of its range, or the body has too many lines.
+    /// A number is out of its range, the second node has the first one's address, or the body has too many lines.
     Range,
     /// The id was declared before.
     Twice,
+    /// A loop is ended or left outside one, is open at the end of its body, or is the fifth that is open.
+    Nest,
     /// The text ends where a line must come, or in the middle of a line.
     Missing,
 }

@@ -1,7 +1,10 @@
-ghost use Rattle.std.specs.Prelude.{◌≡◌, ◌≢◌, ◌↔◌, ◌-◌, ℕ, List, IfOk};
-ghost use Rattle.spec_script.specs.Text.{IsReadAs};
+ghost use Rattle.std.specs.Prelude.{◌≡◌, ◌≢◌, ◌↔◌, ◌-◌, ℕ, List, take, IfOk};
+ghost use Rattle.spec_script.specs.declared.script.Script.{Script as AScript};
+ghost use Rattle.spec_script.specs.Lines.{script_text};
+ghost use Rattle.spec_script.specs.Ranges.{IsGood};
+ghost use Rattle.spec_script.specs.Text.{split_lines, IsReadAs};
 ghost use Rattle.s_script.specs.Reading.{Reads, take_line, at_line, at_end_of_text, finished, read_text};
-ghost use Rattle.s_script.specs.FirstWrong.{first_lines, IsFront};
+ghost use Rattle.s_script.specs.FirstWrong.{first_lines, CanClose, IsFront};
 
 use crate::draft::{Draft, Stage};
 use crate::line::line_of;
@@ -34,16 +37,17 @@ fn finish(draft: Draft, number: usize, rest: &[u8]) -> Result<Script, ReadBad>
 {
     let Draft {
         stage,
-        key,
+        link,
         ticks,
         first,
         node,
         owner: _,
         body: _,
+        depth: _,
     } = draft;
     match (stage, first, rest) {
         (Stage::Declares, Some(first), []) => Ok(Script {
-            link: [key, 0, 0, 0],
+            link,
             ticks,
             nodes: [first, node],
         }),
@@ -80,9 +84,16 @@ pub fn reading()
     ensures { (text : List ℕ) (s : Script) → (read_text text ≡ Ok s) ↔ IsReadAs text s }
 {}
 
-/// The first wrong line is the first with which the text is no front of a good script: some good script begins with the
-/// lines before it, and none begins with these and that line. Where lines are missing, the whole text is such a front.
+/// The printed form of a good script is read as that script.
+pub fn printing()
+    ensures { (s : AScript) → IsGood s → read_text (script_text s) ≡ Ok s }
+{}
+
+/// The first wrong line is the first with which the text is no front of a good script: none begins with the lines before it and
+/// that line, and some good script begins with the lines before it, where an open body has room for the ends of its open
+/// loops. (A body of a thousand lines may leave a loop open: no good script begins so, and the line after them is wrong.) Where
+/// lines are missing, the whole text is such a front.
 pub fn first_wrong()
-    ensures before { (text : List ℕ) (l : ℕ) (w : Why) → read_text text ≡ Err (l, w) → IsFront (first_lines (l - 1) text) }
+    ensures before { (text : List ℕ) (l : ℕ) (w : Why) → read_text text ≡ Err (l, w) → CanClose (take (l - 1) (split_lines text).0) → IsFront (first_lines (l - 1) text) }
     ensures wrong { (text : List ℕ) (l : ℕ) (w : Why) → read_text text ≡ Err (l, w) → w ≢ Why.Missing → IsFront (first_lines l text) → ⊥ }
 {}

@@ -1,5 +1,6 @@
-pub mod Today
+pub mod Exits
 pub mod Lines
 pub mod Ranges
 pub mod Text
 pub mod Configuration
+pub mod Interpreter

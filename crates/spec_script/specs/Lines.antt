@@ -2,6 +2,13 @@
 use Rattle.std.specs.Prelude.{ℕ, Bool, true, false, List, [], ◌∷◌, ◌++◌, Option, Some, unwrap_or, slice_index, slice_index_or, codes, decimal, map}
 use Rattle.std.specs.List.{flat_map}
 use Rattle.it_types.specs.Address.{address_text}
+use Rattle.it_types.specs.declared.id.EndPt.{EndPt}
+use Rattle.it_types.specs.declared.request.Req.{Req}
+use Rattle.it_types.specs.declared.request.Req.TheVariants.{TcpSndDat, TcpSndBuf, UdpSndDat}
+use Rattle.it_types.specs.declared.calls.Word.TheVariants as words
+use Rattle.it_types.specs.Kinds.{Point, Destination, Load, Timeout}
+use Rattle.it_types.specs.Fields.{field_text}
+use Rattle.it_types.specs.Requests.{word_text}
 use Rattle.it_types.specs.Lines.{request_text}
 use Rattle.spec_script.specs.declared.script.Script.{Script}
 use Rattle.spec_script.specs.declared.script.NodeDecl.{NodeDecl}
@@ -11,7 +18,8 @@ use Rattle.spec_script.specs.declared.decl.Body.{Body}
 use Rattle.spec_script.specs.declared.decl.Line.{Line}
 use Rattle.spec_script.specs.declared.decl.Line.TheVariants as body_lines
 use Rattle.spec_script.specs.declared.script_line.ScriptLine.{ScriptLine}
-use Rattle.spec_script.specs.declared.script_line.ScriptLine.TheVariants.{Itron, Link, Ticks, FirstNode, SecondNode, Sem, Flg, Dtq, Task, Cyc, Cbr, Call, End}
+use Rattle.spec_script.specs.declared.script_line.ScriptLine.TheVariants as script_lines
+use Rattle.spec_script.specs.declared.script_line.ScriptLine.TheVariants.{Itron, Link, Ticks, FirstNode, SecondNode, Sem, Flg, Dtq, Task, Cyc, Cbr, End}
 use Rattle.spec_script.specs.declared.script_line.NodeLine.{NodeLine}
 
 -- ---- the text of a line, without its LF
@@ -51,9 +59,37 @@ field text = codes " " ++ text
 abbrev pub node_text : NodeLine → List ℕ
 node_text n = address_text (unwrap_or n.addr 0) ++ (codes " " ++ (number_text n.isn0 ++ (codes " " ++ number_text n.top0)))
 
+-- the data of a call: the buffer, or bytes
+abbrev pub data_field : Bool → List ℕ → List ℕ
+data_field true load = codes " buf"
+data_field false load = field_text Load load
+
+-- the destination of a datagram: the peer, or an address with a port
+abbrev pub destination_field : Bool → EndPt → List ℕ
+destination_field true dest = codes " peer"
+destination_field false dest = field_text Destination dest
+
+-- a call; one that sends may send the buffer, and a datagram may go to the peer
+abbrev pub call_text : Req → Bool → Bool → List ℕ
+call_text (TcpSndDat cep load tmo) buf peer = word_text words.TcpSndDat ++ (field_text Point cep ++ (data_field buf load ++ field_text Timeout tmo))
+call_text (TcpSndBuf cep load) buf peer = word_text words.TcpSndBuf ++ (field_text Point cep ++ data_field buf load)
+call_text (UdpSndDat cep dest load tmo) buf peer =
+    word_text words.UdpSndDat ++ (field_text Point cep ++ (destination_field peer dest ++ (data_field buf load ++ field_text Timeout tmo)))
+call_text request buf peer = request_text request
+
+abbrev pub body_line_text : Line → List ℕ
+body_line_text (body_lines.Call request buf peer) = call_text request buf peer
+body_line_text (body_lines.Fill bytes) = codes "fill" ++ field (decimal bytes)
+body_line_text (body_lines.Loop rounds) = codes "loop" ++ field (decimal rounds)
+body_line_text body_lines.Pool = codes "pool"
+body_line_text body_lines.UntilEnd = codes "until end"
+body_line_text body_lines.UntilFail = codes "until fail"
+body_line_text body_lines.UntilEmpty = codes "until empty"
+
 abbrev pub line_text : ScriptLine → List ℕ
 line_text Itron = codes "itron 1"
-line_text (Link key) = codes "link " ++ (number_text key ++ codes " 0 0 0")
+line_text (Link key lose twice delay) =
+    codes "link" ++ (field (number_text key) ++ (field (number_text lose) ++ (field (number_text twice) ++ field (number_text delay))))
 line_text (Ticks ticks) = codes "ticks " ++ number_text ticks
 line_text (FirstNode n) = codes "node 0 " ++ node_text n
 line_text (SecondNode n) = codes "node 1 " ++ node_text n
@@ -65,7 +101,7 @@ line_text (Task id pri act) = codes "task" ++ (field (number_text id) ++ (field 
 line_text (Cyc id period phase on) =
     codes "cyc" ++ (field (number_text id) ++ (field (number_text period) ++ (field (number_text phase) ++ field (running_text on))))
 line_text (Cbr id) = codes "cbr" ++ field (number_text id)
-line_text (Call request fits) = request_text request
+line_text (script_lines.Body line fits) = body_line_text line
 line_text End = codes "end"
 
 -- a line that ends with LF
@@ -86,14 +122,15 @@ first_node s = slice_index_or s.nodes 0 no_node
 abbrev pub second_node : Script → NodeDecl
 second_node s = slice_index_or s.nodes 1 no_node
 
-abbrev pub key_of : Script → ℕ
-key_of s = slice_index s.link 0
+-- the line of four numbers: the key, how many of 16 packets are lost, how many come twice, and the greatest delay
+abbrev pub link_line : List ℕ → ScriptLine
+link_line link = Link (Some (slice_index link 0)) (Some (slice_index link 1)) (Some (slice_index link 2)) (Some (slice_index link 3))
 
 abbrev pub node_line : NodeDecl → NodeLine
 node_line n = record { addr = Some n.addr; isn0 = Some n.isn0; top0 = Some n.top0 }
 
 abbrev pub body_line : Line → ScriptLine
-body_line (body_lines.Call request) = Call request true
+body_line line = script_lines.Body line true
 
 -- a line that opens a body, the body and its end
 abbrev pub with_body : ScriptLine → Body → List ScriptLine
@@ -109,7 +146,7 @@ declaration_lines (declarations.Cbr cbr body) = with_body (Cbr (Some cbr.0)) bod
 
 -- the lines before the declarations of node 0
 abbrev pub head_lines : Script → List ScriptLine
-head_lines s = Itron ∷ Link (Some (key_of s)) ∷ Ticks (Some s.ticks) ∷ FirstNode (node_line (first_node s)) ∷ []
+head_lines s = Itron ∷ link_line s.link ∷ Ticks (Some s.ticks) ∷ FirstNode (node_line (first_node s)) ∷ []
 
 abbrev pub lines_of : Script → List ScriptLine
 lines_of s = head_lines s ++ (flat_map declaration_lines (first_node s).decls ++ (SecondNode (node_line (second_node s)) ∷ flat_map declaration_lines (second_node s).decls))

@@ -1,13 +1,16 @@
-use it_types::Req;
+use crate::Line;
 
 /// A line of a script's text. A number is `None` where it is 2^64 or more.
 #[derive(Debug, Drop)]
 pub enum ScriptLine {
     /// `itron 1`
     Itron,
-    /// `link KEY 0 0 0`
+    /// `link KEY LOSE TWICE DELAY`
     Link {
         key: Option<u64>,
+        lose: Option<u64>,
+        twice: Option<u64>,
+        delay: Option<u64>,
     },
     /// `ticks T`
     Ticks {
@@ -55,9 +58,9 @@ pub enum ScriptLine {
     Cbr {
         id: Option<u64>,
     },
-    /// A call of a body; `fits` says that each of its numbers is in its range.
-    Call {
-        req: Req,
+    /// A line of a body; `fits` says that each of its numbers is in its range, and one that isn't has another in its place.
+    Body {
+        line: Line,
         fits: bool,
     },
     /// `end`

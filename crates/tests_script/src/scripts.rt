@@ -109,7 +109,7 @@ fn names_the_first_wrong_line(rt: HostRuntime) {
     let table: [(&[u8], usize, Why); 8] = [
         (b"", 1, Why::Missing),
         (b"itron 1\nlink 1 0 0 0\nticks 500000\n", 3, Why::Range),
-        (b"itron 1\n# the link\n\nlink 1 0 0 1\n", 4, Why::Form),
+        (b"itron 1\n# the link\n\nlink 1 9 8 0\n", 4, Why::Range),
         (
             b"itron 1\nlink 1 0 0 0\nticks 0\nnode 0 0.0.0.1 0 0\nsem 1 fifo 0 1\nsem 1 fifo 0 1\n",
             6,
@@ -196,8 +196,24 @@ fn names_the_cause_of_a_wrong_call(rt: HostRuntime) -> Result<(), Fail> {
         ("stp_cyc 4294967296", Why::Range),
         ("udp_del_cep 4294967296", Why::Range),
         ("udp_can_cep 1 rcv", Why::Form),
-        ("tcp_del_rep 1", Why::Form),
-        ("tcp_cre_rep 1 65536", Why::Form),
+        ("tcp_del_rep", Why::Form),
+        ("tcp_cre_rep 1 65536", Why::Range),
+        ("tcp_snd_dat 1 peer buf fevr", Why::Form),
+        ("tcp_con_cep 1 0 peer fevr", Why::Form),
+        ("udp_snd_dat 1 buf peer fevr", Why::Form),
+        ("udp_snd_dat 1 peer buf 0", Why::Range),
+        ("fill 65281", Why::Range),
+        ("fill", Why::Form),
+        ("loop 0", Why::Range),
+        ("loop 65536", Why::Range),
+        ("loop", Why::Form),
+        ("until", Why::Form),
+        ("until full", Why::Form),
+        ("pool 1", Why::Form),
+        ("pool", Why::Nest),
+        ("until end", Why::Nest),
+        ("until fail", Why::Nest),
+        ("until empty", Why::Nest),
     ];
     for (call, why) in table {
         let text = format!(in rt.alloc();
@@ -236,6 +252,40 @@ fn names_the_cause_of_a_wrong_declaration(rt: HostRuntime) -> Result<(), Fail> {
         assert_eq!(rt;
             refusal(rt.alloc(), text.as_bytes()),
             Some(ReadBad::Refused(7, why))
+        );
+    }
+    Ok(())
+}
+
+/// Each call of TCP, each line that is no call, and the buffer and the peer in the place of what a call sends.
+const NETWORK_SCRIPT: &[u8] =
+    b"itron 1\nlink 18446744073709551615 9 7 1000\nticks 400000\nnode 0 10.0.0.1 0 0\ntask 1 1 act\ntcp_cre_rep 1 80\ntcp_del_rep 1\ntcp_cre_cep 1 1000 4294967295 0\ntcp_acp_cep 1 1 fevr\ntcp_con_cep 1 0 10.0.0.2:80 nblk\ntcp_sht_cep 1\ntcp_cls_cep 1 pol\ntcp_snd_dat 1 x00ff 5\ntcp_snd_dat 1 buf fevr\ntcp_rcv_dat 1 4294967295 fevr\ntcp_get_buf 1 fevr\ntcp_snd_buf 1 x\ntcp_snd_buf 1 buf\ntcp_rcv_buf 1 fevr\ntcp_rel_buf 1 4\ntcp_can_cep 1 all\ntcp_del_cep 1\nend\ntask 2 2 act\nfill 0\nfill 65280\nloop 1\nloop 2\nloop 3\nloop 65535\nuntil end\nuntil fail\nuntil empty\nudp_snd_dat 1 peer buf fevr\nudp_snd_dat 1 peer x00 fevr\nudp_snd_dat 1 0.0.0.0:0 buf fevr\npool\npool\npool\npool\nend\nnode 1 10.0.0.2 0 0\n";
+
+#[test]
+fn prints_each_line_of_a_body(rt: HostRuntime) -> Result<(), Fail> {
+    let script = read(rt.alloc(), NETWORK_SCRIPT)?;
+    let mut out = Vec::new(rt.alloc());
+    print_into(rt.alloc(), &script, &mut out)?;
+    assert_eq!(rt; out.as_slice(), NETWORK_SCRIPT);
+    Ok(())
+}
+
+#[test]
+fn names_the_first_line_that_nests_wrongly(rt: HostRuntime) -> Result<(), Fail> {
+    let table = [
+        ("loop 2\nend", 7),
+        ("loop 2\npool\npool", 8),
+        ("loop 2\npool\nuntil end", 8),
+        ("loop 1\nloop 1\nloop 1\nloop 1\nloop 1", 10),
+        ("loop 1\nloop 1\npool\nend", 9),
+    ];
+    for (lines, number) in table {
+        let text = format!(in rt.alloc();
+            "itron 1\nlink 1 0 0 0\nticks 0\nnode 0 0.0.0.1 0 0\ntask 1 1 act\n{lines}\n"
+        )?;
+        assert_eq!(rt;
+            refusal(rt.alloc(), text.as_bytes()),
+            Some(ReadBad::Refused(number, Why::Nest))
         );
     }
     Ok(())
