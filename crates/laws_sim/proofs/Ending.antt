@@ -18,12 +18,14 @@ use Rattle.spec_sim.specs.Serial.{is_large, run, serial}
 use Rattle.spec_sim.proofs.Turns.{next_admitted}
 use Rattle.spec_sim.proofs.Underway.{run_none, run_large, run_more, after-size, after-entry}
 use Rattle.laws_sim.proofs.Following.{after-ev}
+use Rattle.laws_sim.proofs.Linked.{IsLinked, after_linked, opening_linked}
 
 -- the history before goes on, and the play knows its size and how many entries more it may have
 record IsUnderWay (n : ℕ) (before : List Entry) (p : PlainPlay) : Type 0 where
   count : length before + n ≡ entry_limit
   data_size : p.size ≡ sum_by entry_size before
   going : ends_with_stop before ≡ false
+  linked : IsLinked p
 
 after-world : (plan : Plan) (p : PlainPlay) (event : Event) → (after plan p event).0.world ≡ (step p.world event).0
 unfolding after
@@ -38,6 +40,7 @@ goes_on n plan before p h f = record {
   count = omega (arith, h.count, length-append before ((after plan p (next plan p)).1 ∷ []));
   data_size = after-size plan p before h.data_size;
   going = stops_more before (after plan p (next plan p)).1 ∙ ap is_stop (after-ev plan p (next plan p)) ∙ f;
+  linked = after_linked plan p (next plan p) h.linked;
 }
 
 -- ---- the run
@@ -49,7 +52,7 @@ follows : (n : ℕ) (plan : Plan) (before : List Entry) (p : PlainPlay) → IsUn
 follows n plan before p h f = let same = after-ev plan p (next plan p) in record {
   going = h.going;
   room = has_room n before p h f;
-  admitted = ap (is_admitted p.world) same ∙ next_admitted plan p;
+  admitted = ap (is_admitted p.world) same ∙ next_admitted plan p h.linked.sent_before;
   given = ap (λ (v : Event). (step p.world v).1) same ∙ sym (after-entry plan p (next plan p));
 }
 
@@ -95,7 +98,7 @@ run_ends (suc n) plan before p h = elim (cases_Bool (is_large p)) [
 -- ---- the history of a script
 
 at_opening : (s : Script) → IsUnderWay entry_limit [] (opening s)
-at_opening s = record { count = refl; data_size = refl; going = refl }
+at_opening s = record { count = refl; data_size = refl; going = refl; linked = opening_linked s }
 
 pub serial_runs : (s : Script) → IsRun (conf_of s) (serial s)
 serial_runs s = run_runs entry_limit (plan_of s) [] (opening s) (at_opening s)

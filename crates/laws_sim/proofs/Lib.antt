@@ -1,3 +1,4 @@
+pub mod Linked
 pub mod Points
 pub mod Following
 pub mod Ending

@@ -1,4 +1,3 @@
-ghost use Rattle.std.specs.Prelude.{[]};
 ghost use Rattle.spec_script.specs.declared.script.Script.{Script};
 ghost use Rattle.spec_sim.specs.Schedule.{plan_of, opening};
 ghost use Rattle.spec_sim.specs.Serial.{serial};
@@ -8,5 +7,5 @@ ghost use Rattle.laws_sim.specs.Scheduled.{FollowsSchedule};
 /// entry that the machine gives for it; nothing follows the stop.
 #[tactic(auto, using(crate::proofs::Following::serial_follows))]
 pub fn serial_is_scheduled()
-    ensures { (s : Script) → FollowsSchedule (plan_of s) [] (opening s) (serial s) }
+    ensures { (s : Script) → FollowsSchedule (plan_of s) (opening s) (serial s) }
 {}

@@ -9,6 +9,8 @@ use Rattle.spec_kernel.specs.Rows as rows
 use Rattle.spec_node.specs.Progress as progress
 use Rattle.spec_node.specs.NodeStep as node
 use Rattle.spec_world.specs.PlainWorld.{step}
+use Rattle.spec_script.specs.Interpreter.{forward, lines_passed, rounds_passed}
+use Rattle.spec_sim.specs.Bodies.{tasks_started}
 use Rattle.spec_sim.specs.Schedule.{next, after}
 use Rattle.spec_sim.specs.Serial.{run, serial}
 use Rattle.spec_sim.proofs.Examples.{script_of, task, semaphore, waits_up_to, delays, signals, exits, line, called, returned, code, pends, end, gone, run_mark, tick, tick_with, stop}
@@ -24,7 +26,7 @@ at_one_tick =
     ∷ returned 3 (negsuc 49) ∷ called 3 exits Quiet [] (gone 3 ∷ run_mark 0 ∷ []) ∷ stop ∷ []
 
 pub several_at_one_tick : serial (script_of (semaphore 1 0 1 ∷ task 1 2 (line (waits_up_to 1 3) ∷ []) ∷ task 2 1 (line (delays 3) ∷ []) ∷ task 3 3 (line (waits_up_to 1 3) ∷ []) ∷ [])) ≡ at_one_tick
-unfolding settle settled due rows.call rows.tick progress.after_kernel progress.time_out progress.timed_out node.kernel_called node.returned node.ticked node.node_step step next after run
+unfolding settle settled due rows.call rows.tick progress.after_kernel progress.time_out progress.timed_out node.kernel_called node.returned node.ticked node.node_step step forward lines_passed rounds_passed tasks_started next after run
 several_at_one_tick = refl
 
 -- a signal in the tick before the deadline ends the call, and the tick of the deadline ends nothing
@@ -38,7 +40,7 @@ before_the_deadline =
     ∷ returned 1 (pos 0) ∷ called 1 exits Quiet [] (gone 1 ∷ run_mark 0 ∷ []) ∷ stop ∷ []
 
 pub signal_before_the_deadline : serial (script_of (semaphore 1 0 1 ∷ task 1 1 (line (waits_up_to 1 3) ∷ line (delays 1) ∷ []) ∷ task 2 2 (line (delays 2) ∷ line (signals 1) ∷ []) ∷ [])) ≡ before_the_deadline
-unfolding settle settled due rows.call rows.tick progress.after_kernel progress.time_out progress.timed_out node.kernel_called node.returned node.ticked node.node_step step next after run
+unfolding settle settled due rows.call rows.tick progress.after_kernel progress.time_out progress.timed_out node.kernel_called node.returned node.ticked node.node_step step forward lines_passed rounds_passed tasks_started next after run
 signal_before_the_deadline = refl
 
 -- a delay of 0 ends at the next tick
@@ -48,5 +50,5 @@ at_the_next_tick =
     ∷ called 1 exits Quiet [] (gone 1 ∷ run_mark 0 ∷ []) ∷ stop ∷ []
 
 pub shortest_delay : serial (script_of (task 1 1 (line (delays 0) ∷ []) ∷ [])) ≡ at_the_next_tick
-unfolding settle settled due rows.call rows.tick progress.after_kernel progress.time_out progress.timed_out node.kernel_called node.returned node.ticked node.node_step step next after run
+unfolding settle settled due rows.call rows.tick progress.after_kernel progress.time_out progress.timed_out node.kernel_called node.returned node.ticked node.node_step step forward lines_passed rounds_passed tasks_started next after run
 shortest_delay = refl

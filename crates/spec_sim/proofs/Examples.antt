@@ -27,14 +27,19 @@ use Rattle.spec_script.specs.declared.decl.Decl.{Decl}
 use Rattle.spec_script.specs.declared.decl.Decl.TheVariants as declarations
 use Rattle.spec_script.specs.declared.decl.Line.{Line}
 use Rattle.spec_script.specs.declared.decl.Line.TheVariants as body_lines
+use Rattle.spec_script.specs.Interpreter.{no_peer}
 
--- ten ticks, and these declarations of node 0, 10.0.0.1, and node 1, 10.0.0.2
-abbrev pub script_of_both : List Decl → List Decl → Script
-script_of_both first second = record {
-  link = 1 ∷ 0 ∷ 0 ∷ 0 ∷ [];
-  ticks = 10;
+-- a link, so many ticks, and these declarations of node 0, 10.0.0.1, and node 1, 10.0.0.2
+abbrev pub script_with : List ℕ → ℕ → List Decl → List Decl → Script
+script_with link ticks first second = record {
+  link = link;
+  ticks = ticks;
   nodes = record { addr = 0x0a000001; isn0 = 0; top0 = 0; decls = first } ∷ record { addr = 0x0a000002; isn0 = 0; top0 = 0; decls = second } ∷ [];
 }
+
+-- ten ticks, and a link that delivers each packet once and at once
+abbrev pub script_of_both : List Decl → List Decl → Script
+script_of_both first second = script_with (1 ∷ 0 ∷ 0 ∷ 0 ∷ []) 10 first second
 
 -- declarations of node 0 alone
 abbrev pub script_of : List Decl → Script
@@ -66,6 +71,20 @@ cyclic id period phase lines = declarations.Cyc (record { id = id; period = peri
 
 abbrev pub routine : ℕ → List Line → Decl
 routine id lines = declarations.Cbr (record { 0 = id }) (record { lines = lines })
+
+-- 10.0.0.1:1000 and 10.0.0.2:2000
+abbrev pub near : EndPt
+near = record { addr = 0x0a000001; port = 1000 }
+
+abbrev pub far : EndPt
+far = record { addr = 0x0a000002; port = 2000 }
+
+-- what is received of such data: the sender, and the data
+abbrev pub from_near : List ℕ → List ℕ
+from_near load = 0x0a ∷ 0x00 ∷ 0x00 ∷ 0x01 ∷ 0x03 ∷ 0xe8 ∷ load
+
+abbrev pub from_far : List ℕ → List ℕ
+from_far load = 0x0a ∷ 0x00 ∷ 0x00 ∷ 0x02 ∷ 0x07 ∷ 0xd0 ∷ load
 
 abbrev pub the_task : ℕ → TaskId
 the_task id = record { 0 = id }
@@ -147,7 +166,15 @@ abbrev pub receives : ℕ → ℕ → Tmo → Req
 receives cep len tmo = calls.receives cep len tmo
 
 abbrev pub line : Req → Line
-line request = body_lines.Call request
+line request = body_lines.Call request false false
+
+-- a datagram of the buffer
+abbrev pub sends_buffer : ℕ → EndPt → Line
+sends_buffer cep dest = body_lines.Call (sends cep dest []) true false
+
+-- and one to the peer
+abbrev pub sends_back : ℕ → Line
+sends_back cep = body_lines.Call (sends cep no_peer []) true true
 
 abbrev pub on_task : ℕ → Ctx
 on_task id = contexts.Task (record { 0 = id })
@@ -187,12 +214,15 @@ returned id code = returned_with 0 id code []
 abbrev pub delivered : ℕ → List CallEnd → List Mark → Entry
 delivered number ends marked = entry (events.Deliver (record { 0 = number })) answers.Quiet ends marked
 
+abbrev pub code_with : ℤ → List ℕ → Ans
+code_with c bytes = answers.Now (record { 0 = c }) bytes
+
 abbrev pub code : ℤ → Ans
-code c = answers.Now (record { 0 = c }) []
+code c = code_with c []
 
 -- the answer E_OK with bytes
 abbrev pub told : List ℕ → Ans
-told bytes = answers.Now (record { 0 = pos 0 }) bytes
+told bytes = code_with (pos 0) bytes
 
 abbrev pub pends : ℕ → Ans
 pends number = answers.Pends (record { 0 = number })

@@ -1,7 +1,6 @@
 -- Histories of datagrams between 10.0.0.1 and 10.0.0.2 over a link that loses none.
 use Rattle.std.proofs.Common.{◌≡◌, ℕ, List, [], ◌∷◌, refl}
 use Rattle.std.specs.Prelude.{pos, negsuc}
-use Rattle.it_types.specs.declared.id.EndPt.{EndPt}
 use Rattle.it_types.specs.declared.timeout.Tmo.TheVariants.{Pol, Fevr}
 use Rattle.it_types.specs.declared.answer.Ans.TheVariants.{Quiet}
 use Rattle.it_types.specs.declared.entry.Entry.{Entry}
@@ -20,16 +19,13 @@ use Rattle.spec_udp.specs.Outside.{ended}
 use Rattle.spec_node.specs.Progress as progress
 use Rattle.spec_node.specs.NodeStep as node
 use Rattle.spec_world.specs.PlainWorld.{step}
+use Rattle.spec_script.specs.Interpreter.{forward, lines_passed, rounds_passed}
+use Rattle.spec_link.specs.Fates.{words, generator_of}
+use Rattle.spec_link.specs.Link.{sent}
+use Rattle.spec_sim.specs.Bodies.{tasks_started}
 use Rattle.spec_sim.specs.Schedule.{next, after}
 use Rattle.spec_sim.specs.Serial.{run, serial}
-use Rattle.spec_sim.proofs.Examples.{script_of_both, task, delays, creates, sends, receives, exits, line, called_at, sent_at, returned_with, delivered, code, pends, end, end_with, gone, run_mark, tick, tick_with, stop}
-
--- 10.0.0.1:1000 and 10.0.0.2:2000
-abbrev near : EndPt
-near = record { addr = 0x0a000001; port = 1000 }
-
-abbrev far : EndPt
-far = record { addr = 0x0a000002; port = 2000 }
+use Rattle.spec_sim.proofs.Examples.{script_of_both, far, from_near, task, delays, creates, sends, receives, exits, line, called_at, sent_at, returned_with, delivered, code, pends, end, end_with, gone, run_mark, tick, tick_with, stop}
 
 -- "hi" from 10.0.0.1:1000 to 10.0.0.2:2000
 abbrev hi : List ℕ
@@ -37,10 +33,6 @@ hi = 0x68 ∷ 0x69 ∷ []
 
 abbrev hi_packet : List ℕ
 hi_packet = 0x45 ∷ 0x00 ∷ 0x00 ∷ 0x1e ∷ 0x00 ∷ 0x00 ∷ 0x40 ∷ 0x00 ∷ 0x40 ∷ 0x11 ∷ 0x26 ∷ 0xcd ∷ 0x0a ∷ 0x00 ∷ 0x00 ∷ 0x01 ∷ 0x0a ∷ 0x00 ∷ 0x00 ∷ 0x02 ∷ 0x03 ∷ 0xe8 ∷ 0x07 ∷ 0xd0 ∷ 0x00 ∷ 0x0a ∷ 0x77 ∷ 0xb6 ∷ 0x68 ∷ 0x69 ∷ []
-
--- the sender, 10.0.0.1:1000, and the first byte of the data, and all of it
-abbrev from_near : List ℕ → List ℕ
-from_near load = 0x0a ∷ 0x00 ∷ 0x00 ∷ 0x01 ∷ 0x03 ∷ 0xe8 ∷ load
 
 -- ---- a receive that waits, a datagram that ends it, and a poll for another
 
@@ -60,5 +52,5 @@ pub exchange :
     (task 1 1 (line (creates 1 1000) ∷ line (delays 1) ∷ line (sends 1 far hi) ∷ []) ∷ [])
     (task 1 1 (line (creates 1 2000) ∷ line (receives 1 1 Fevr) ∷ line (receives 1 1 Pol) ∷ []) ∷ []))
     ≡ first_exchange
-unfolding ones_sum ipv4.written ipv4.refusal udp.written udp.refusal kernel_settle.settle kernel_settle.settled due kernel_rows.call kernel_rows.tick unblocked first_free arrived_in udp_settle.settle udp_settle.settled udp_call arrive ended progress.after_kernel progress.time_out progress.timed_out node.kernel_called node.network_called node.arrived node.ticked node.returned node.node_step step next after run
+unfolding ones_sum ipv4.written ipv4.refusal udp.written udp.refusal kernel_settle.settle kernel_settle.settled due kernel_rows.call kernel_rows.tick unblocked first_free arrived_in udp_settle.settle udp_settle.settled udp_call arrive ended progress.after_kernel progress.time_out progress.timed_out node.kernel_called node.network_called node.arrived node.ticked node.returned node.node_step step forward lines_passed rounds_passed tasks_started words generator_of sent next after run
 exchange = refl

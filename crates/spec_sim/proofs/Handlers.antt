@@ -15,6 +15,8 @@ use Rattle.spec_udp.specs.Outside.{ended}
 use Rattle.spec_node.specs.Progress as progress
 use Rattle.spec_node.specs.NodeStep as node
 use Rattle.spec_world.specs.PlainWorld.{step}
+use Rattle.spec_script.specs.Interpreter.{forward, lines_passed, rounds_passed}
+use Rattle.spec_sim.specs.Bodies.{tasks_started}
 use Rattle.spec_sim.specs.Schedule.{next, after}
 use Rattle.spec_sim.specs.Serial.{run, serial}
 use Rattle.spec_sim.proofs.Examples.{script_of, script_of_both, task, dormant_task, semaphore, delays, activates, cyclic, routine, waits, signals, creates_with, receives, cancels, exits, line, called, called_at, called_by_handler, begins, finishes, returned, code, pends, later, end, gone, begun, run_mark, callback, cyc, cbr, tick, tick_with, stop}
@@ -34,7 +36,7 @@ pub cancelled :
     ∷ task 1 1 (line (creates_with 1 2000 1) ∷ line (receives 1 10 Nblk) ∷ line (cancels 1 functions.UdpRcv) ∷ line (cancels 1 functions.All) ∷ [])
     ∷ []))
     ≡ cancelled_history
-unfolding kernel_settle.settle kernel_settle.settled kernel_rows.call unblocked first_free udp_settle.settle udp_settle.settled udp_call ended progress.after_kernel node.kernel_called node.network_called node.begun node.finished node.node_step step next after run
+unfolding kernel_settle.settle kernel_settle.settled kernel_rows.call unblocked first_free udp_settle.settle udp_settle.settled udp_call ended progress.after_kernel node.kernel_called node.network_called node.begun node.finished node.node_step step forward lines_passed rounds_passed tasks_started next after run
 cancelled = refl
 
 -- ---- a handler of period 3 and phase 0 signals at ticks 1 and 4, and a task waits twice
@@ -49,7 +51,7 @@ signalled_history =
     ∷ returned 1 (pos 0) ∷ called 1 exits Quiet [] (gone 1 ∷ run_mark 0 ∷ []) ∷ stop ∷ []
 
 pub signalled : serial (script_of (semaphore 1 0 9 ∷ cyclic 1 3 0 (line (signals 1) ∷ []) ∷ task 1 1 (line (waits 1) ∷ line (waits 1) ∷ []) ∷ [])) ≡ signalled_history
-unfolding kernel_settle.settle kernel_settle.settled due kernel_rows.call kernel_rows.tick progress.after_kernel progress.time_out progress.timed_out node.kernel_called node.returned node.ticked node.begun node.finished node.node_step step next after run
+unfolding kernel_settle.settle kernel_settle.settled due kernel_rows.call kernel_rows.tick progress.after_kernel progress.time_out progress.timed_out node.kernel_called node.returned node.ticked node.begun node.finished node.node_step step forward lines_passed rounds_passed tasks_started next after run
 signalled = refl
 
 -- ---- a handler activates a task at ticks 1 and 4, which begins at the first line of its body both times
@@ -72,5 +74,5 @@ pub activated :
     ∷ dormant_task 2 2 (line (signals 1) ∷ [])
     ∷ []))
     ≡ activated_history
-unfolding kernel_settle.settle kernel_settle.settled due kernel_rows.call kernel_rows.tick progress.after_kernel progress.time_out progress.timed_out node.kernel_called node.returned node.ticked node.begun node.finished node.node_step step next after run
+unfolding kernel_settle.settle kernel_settle.settled due kernel_rows.call kernel_rows.tick progress.after_kernel progress.time_out progress.timed_out node.kernel_called node.returned node.ticked node.begun node.finished node.node_step step forward lines_passed rounds_passed tasks_started next after run
 activated = refl

@@ -1,3 +1,4 @@
+pub mod Sent
 pub mod Declarable
 pub mod Turns
 pub mod Underway
@@ -7,6 +8,8 @@ pub mod Overflow
 pub mod Timeout
 pub mod Deadlines
 pub mod Exchange
+pub mod Echo
+pub mod Fates
 pub mod ObjectHistories
 pub mod TaskHistories
 pub mod Handlers

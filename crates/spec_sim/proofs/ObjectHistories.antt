@@ -12,6 +12,8 @@ use Rattle.spec_node.specs.Progress as progress
 use Rattle.spec_node.specs.NodeStep as node
 use Rattle.spec_world.specs.PlainWorld.{step}
 use Rattle.spec_script.specs.declared.decl.Decl.{Decl}
+use Rattle.spec_script.specs.Interpreter.{forward, lines_passed, rounds_passed}
+use Rattle.spec_sim.specs.Bodies.{tasks_started}
 use Rattle.spec_sim.specs.Schedule.{next, after}
 use Rattle.spec_sim.specs.Serial.{run, serial}
 use Rattle.spec_sim.proofs.Examples.{script_of, task, semaphore_by_priority, clearing_flag, queue, waits, signals, gives_priority, sets, waits_for_any, waits_for_all, sends_item, forces_item, receives_item, exits, line, called, returned, returned_with, code, told, pends, end, end_with, gone, run_mark, ticks_before, stop}
@@ -40,7 +42,7 @@ flag_history =
     ∷ called 3 (waits_for_any 1 3 Pol) (code (negsuc 49)) [] [] ∷ called 3 exits Quiet [] (gone 3 ∷ run_mark 0 ∷ []) ∷ stop ∷ []
 
 pub flag : serial (script_of flag_script) ≡ flag_history
-unfolding settle settled rows.call progress.after_kernel node.kernel_called node.returned node.node_step step next after run
+unfolding settle settled rows.call progress.after_kernel node.kernel_called node.returned node.node_step step forward lines_passed rounds_passed tasks_started next after run
 flag = refl
 
 -- ---- a data queue of capacity 0: the item goes from the sender to the receiver that waits
@@ -56,7 +58,7 @@ rendezvous_history =
     ∷ called 2 (forces_item 1 9) (code (negsuc 27)) [] [] ∷ called 2 exits Quiet [] (gone 2 ∷ run_mark 0 ∷ []) ∷ stop ∷ []
 
 pub rendezvous : serial (script_of rendezvous_script) ≡ rendezvous_history
-unfolding settle settled rows.call progress.after_kernel node.kernel_called node.returned node.node_step step next after run
+unfolding settle settled rows.call progress.after_kernel node.kernel_called node.returned node.node_step step forward lines_passed rounds_passed tasks_started next after run
 rendezvous = refl
 
 -- ---- a third item sent by force to a data queue for two drops the oldest
@@ -73,7 +75,7 @@ oldest_dropped_history =
     ∷ called 1 (receives_item 1 Pol) (code (negsuc 49)) [] [] ∷ called 1 exits Quiet [] (gone 1 ∷ run_mark 0 ∷ []) ∷ stop ∷ []
 
 pub oldest_dropped : serial (script_of oldest_dropped_script) ≡ oldest_dropped_history
-unfolding settle settled rows.call progress.after_kernel node.kernel_called node.returned node.node_step step next after run
+unfolding settle settled rows.call progress.after_kernel node.kernel_called node.returned node.node_step step forward lines_passed rounds_passed tasks_started next after run
 oldest_dropped = refl
 
 -- ---- the later of two tasks that wait by priority is made the more urgent; the other waits for good
@@ -91,5 +93,5 @@ new_priority_history =
     ∷ ticks_before 10 (stop ∷ [])
 
 pub new_priority : serial (script_of new_priority_script) ≡ new_priority_history
-unfolding settle settled due rows.call rows.tick progress.after_kernel progress.time_out progress.timed_out node.kernel_called node.returned node.ticked node.node_step step next after run
+unfolding settle settled due rows.call rows.tick progress.after_kernel progress.time_out progress.timed_out node.kernel_called node.returned node.ticked node.node_step step forward lines_passed rounds_passed tasks_started next after run
 new_priority = refl

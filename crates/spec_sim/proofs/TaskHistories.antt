@@ -15,6 +15,8 @@ use Rattle.spec_node.specs.Progress as progress
 use Rattle.spec_node.specs.NodeStep as node
 use Rattle.spec_world.specs.PlainWorld.{step}
 use Rattle.spec_script.specs.declared.decl.Decl.{Decl}
+use Rattle.spec_script.specs.Interpreter.{forward, lines_passed, rounds_passed}
+use Rattle.spec_sim.specs.Bodies.{tasks_started}
 use Rattle.spec_sim.specs.Schedule.{next, after}
 use Rattle.spec_sim.specs.Serial.{run, serial}
 use Rattle.spec_sim.proofs.Examples.{script_of, task, dormant_task, semaphore, waits, waits_up_to, delays, signals, activates, terminates, releases, suspends, resumes, sets_time, tells_time, creates, receives, exits, line, called, returned, code, told, pends, end, gone, begun, run_mark, ticks_before, tick_with, stop}
@@ -36,7 +38,7 @@ released_history =
     ∷ called 2 (releases 1) (code (negsuc 40)) [] [] ∷ called 2 exits Quiet [] (gone 2 ∷ run_mark 0 ∷ []) ∷ stop ∷ [])
 
 pub released : serial (script_of released_script) ≡ released_history
-unfolding kernel_settle.settle kernel_settle.settled due rows.call rows.tick progress.after_kernel progress.time_out progress.timed_out node.kernel_called node.returned node.ticked node.node_step step next after run
+unfolding kernel_settle.settle kernel_settle.settled due rows.call rows.tick progress.after_kernel progress.time_out progress.timed_out node.kernel_called node.returned node.ticked node.node_step step forward lines_passed rounds_passed tasks_started next after run
 released = refl
 
 -- ---- the wait of a suspended task ends; the task runs after the resume
@@ -51,7 +53,7 @@ suspended_history =
     ∷ called 2 exits Quiet [] (gone 2 ∷ run_mark 0 ∷ []) ∷ stop ∷ []
 
 pub suspended : serial (script_of suspended_script) ≡ suspended_history
-unfolding kernel_settle.settle kernel_settle.settled rows.call progress.after_kernel node.kernel_called node.returned node.node_step step next after run
+unfolding kernel_settle.settle kernel_settle.settled rows.call progress.after_kernel node.kernel_called node.returned node.node_step step forward lines_passed rounds_passed tasks_started next after run
 suspended = refl
 
 -- ---- a task that waits for a datagram is terminated, and begins again with an activation that was kept
@@ -70,7 +72,7 @@ terminated_history =
     ∷ called 2 (terminates 1) ok (end 2 (negsuc 48) ∷ []) (gone 1 ∷ []) ∷ called 2 exits Quiet [] (gone 2 ∷ run_mark 0 ∷ []) ∷ stop ∷ []
 
 pub terminated : serial (script_of terminated_script) ≡ terminated_history
-unfolding kernel_settle.settle kernel_settle.settled rows.call unblocked udp_settle.settle udp_settle.settled udp_call ended progress.after_kernel node.kernel_called node.network_called node.returned node.node_step step next after run
+unfolding kernel_settle.settle kernel_settle.settled rows.call unblocked udp_settle.settle udp_settle.settled udp_call ended progress.after_kernel node.kernel_called node.network_called node.returned node.node_step step forward lines_passed rounds_passed tasks_started next after run
 terminated = refl
 
 -- ---- the system time is set while a wait of 2 ticks is under way, which ends at tick 3 all the same
@@ -92,5 +94,5 @@ time_set_history =
     ∷ called 1 tells_time (told (time_bytes 0x03)) [] [] ∷ called 1 exits Quiet [] (gone 1 ∷ run_mark 0 ∷ []) ∷ stop ∷ [])
 
 pub time_set : serial (script_of time_set_script) ≡ time_set_history
-unfolding kernel_settle.settle kernel_settle.settled due rows.call rows.tick progress.after_kernel progress.time_out progress.timed_out node.kernel_called node.returned node.ticked node.node_step step next after run
+unfolding kernel_settle.settle kernel_settle.settled due rows.call rows.tick progress.after_kernel progress.time_out progress.timed_out node.kernel_called node.returned node.ticked node.node_step step forward lines_passed rounds_passed tasks_started next after run
 time_set = refl

@@ -9,6 +9,8 @@ use Rattle.spec_kernel.specs.Rows as rows
 use Rattle.spec_node.specs.Progress as progress
 use Rattle.spec_node.specs.NodeStep as node
 use Rattle.spec_world.specs.PlainWorld.{step}
+use Rattle.spec_script.specs.Interpreter.{forward, lines_passed, rounds_passed}
+use Rattle.spec_sim.specs.Bodies.{tasks_started}
 use Rattle.spec_sim.specs.Schedule.{next, after}
 use Rattle.spec_sim.specs.Serial.{run, serial}
 use Rattle.spec_sim.proofs.Examples.{script_of, task, semaphore, waits_up_to, exits, line, called, returned, pends, end, gone, run_mark, tick, tick_with, stop}
@@ -24,5 +26,5 @@ history =
     ++ (tick_with 0 (end 1 (negsuc 49) ∷ []) (run_mark 1 ∷ []) ∷ returned 1 (negsuc 49) ∷ called 1 exits Quiet [] (gone 1 ∷ run_mark 0 ∷ []) ∷ stop ∷ []))))))
 
 pub timeout : serial (script_of (semaphore 1 0 1 ∷ task 1 1 (line (waits_up_to 1 5) ∷ []) ∷ [])) ≡ history
-unfolding settle settled due rows.call rows.tick progress.after_kernel progress.time_out progress.timed_out node.kernel_called node.returned node.ticked node.node_step step next after run
+unfolding settle settled due rows.call rows.tick progress.after_kernel progress.time_out progress.timed_out node.kernel_called node.returned node.ticked node.node_step step forward lines_passed rounds_passed tasks_started next after run
 timeout = refl

@@ -1,9 +1,13 @@
--- The calls that the body of a task or of a handler makes, one after another. It is this project's own.
-use Rattle.std.specs.Prelude.{ℕ, ◌+◌, List, [], ◌∷◌, length, Option, Some, None, nat_lt, ◌==◌, if◌then◌else◌, slice_get, slice_index, slice_set}
+-- The bodies of tasks and handlers, and what each does next. It is this project's own.
+use Rattle.std.specs.Prelude.{ℕ, zero, suc, ◌+◌, List, [], ◌∷◌, Option, Some, None, ◌==◌, if◌then◌else◌, slice_set}
+use Rattle.std.specs.Option.{option_map}
 use Rattle.it_types.specs.declared.id.NodeId.{NodeId}
 use Rattle.it_types.specs.declared.id.TaskId.{TaskId}
 use Rattle.it_types.specs.declared.id.ObjId.{ObjId}
+use Rattle.it_types.specs.declared.answer.Ans.{Ans}
+use Rattle.it_types.specs.declared.answer.Ans.TheVariants as answers
 use Rattle.it_types.specs.declared.context.Ctx.TheVariants as contexts
+use Rattle.it_types.specs.declared.er.TheConstants.{E_WBLK}
 use Rattle.it_types.specs.declared.event.Event.{Event}
 use Rattle.it_types.specs.declared.event.Event.TheVariants as events
 use Rattle.it_types.specs.declared.handler.Handler.{Handler}
@@ -12,78 +16,120 @@ use Rattle.it_types.specs.declared.mark.Mark.{Mark}
 use Rattle.it_types.specs.declared.mark.Mark.TheVariants.{Begun}
 use Rattle.it_types.specs.declared.request.Req.{Req}
 use Rattle.it_types.specs.declared.request.Req.TheVariants.{ExtTsk}
+use Rattle.spec_lists.specs.Tables.{get}
+use Rattle.spec_script.specs.declared.decl.Body.{Body}
 use Rattle.spec_script.specs.declared.decl.Decl.{Decl}
 use Rattle.spec_script.specs.declared.decl.Decl.TheVariants as declarations
-use Rattle.spec_script.specs.declared.decl.Line.{Line}
-use Rattle.spec_script.specs.declared.decl.Line.TheVariants as body_lines
+use Rattle.spec_script.specs.declared.want.Want.{Want}
+use Rattle.spec_script.specs.declared.want.Want.TheVariants as wants
+use Rattle.spec_script.specs.Interpreter.{Interpreter, started, up_to_call, wanted, told}
 
-abbrev pub request_of : Line → Req
-request_of (body_lines.Call request) = request
+-- ---- bodies
 
--- ---- tasks
-
--- the body of a task
-abbrev pub body_of : List Decl → TaskId → List Line
-body_of [] task = []
-body_of (declarations.Task declared body ∷ ds) task = if declared.id == task.0 then body.lines else body_of ds task
+-- the body of a task, if it is declared
+abbrev pub body_of : List Decl → TaskId → Option Body
+body_of [] task = None
+body_of (declarations.Task declared body ∷ ds) task = if declared.id == task.0 then Some body else body_of ds task
 body_of (_ ∷ ds) task = body_of ds task
 
--- a task's next call: that of its next line, and after the last line it ends
-abbrev pub request_or_exit : Option Line → Req
-request_or_exit (Some line) = request_of line
-request_or_exit None = ExtTsk
-
-abbrev pub next_request : List Decl → TaskId → ℕ → Req
-next_request decls task place = request_or_exit (slice_get (body_of decls task) place)
-
--- ---- handlers
-
 -- the body of a cyclic handler
-abbrev pub cyclic_body : List Decl → ObjId → List Line
-cyclic_body [] cyc = []
-cyclic_body (declarations.Cyc declared body ∷ ds) cyc = if declared.id == cyc.0 then body.lines else cyclic_body ds cyc
+abbrev pub cyclic_body : List Decl → ObjId → Option Body
+cyclic_body [] cyc = None
+cyclic_body (declarations.Cyc declared body ∷ ds) cyc = if declared.id == cyc.0 then Some body else cyclic_body ds cyc
 cyclic_body (_ ∷ ds) cyc = cyclic_body ds cyc
 
 -- the body of a callback routine
-abbrev pub routine_body : List Decl → ObjId → List Line
-routine_body [] cbr = []
-routine_body (declarations.Cbr declared body ∷ ds) cbr = if declared.0 == cbr.0 then body.lines else routine_body ds cbr
+abbrev pub routine_body : List Decl → ObjId → Option Body
+routine_body [] cbr = None
+routine_body (declarations.Cbr declared body ∷ ds) cbr = if declared.0 == cbr.0 then Some body else routine_body ds cbr
 routine_body (_ ∷ ds) cbr = routine_body ds cbr
 
 -- the body of a handler
-abbrev pub handler_body : List Decl → Handler → List Line
+abbrev pub handler_body : List Decl → Handler → Option Body
 handler_body decls (handlers.Cyc cyc) = cyclic_body decls cyc
 handler_body decls (handlers.Cbr cbr udp cep func code bytes) = routine_body decls cbr
 
--- what a handler that has begun does next: it makes the call of its next line, and after the last line it ends
-abbrev pub call_or_finish : NodeId → Option Line → Event
-call_or_finish id (Some line) = events.Call id contexts.Handler (request_of line)
-call_or_finish id None = events.Finish id
+-- ---- interpreters
 
-abbrev pub handler_event : NodeId → List Decl → Handler → ℕ → Event
-handler_event id decls handler place = call_or_finish id (slice_get (handler_body decls handler) place)
+-- where the tasks and the handler of a node have come to
+pub record Interpreters : Type 0 where
+  pub tasks : List (Option Interpreter)  -- by task id, none for a task that isn't declared
+  pub handler : Option Interpreter  -- of the handler that has begun last
 
--- ---- places
+abbrev pub task_started : NodeId → List Decl → TaskId → Option Interpreter
+task_started id decls task = option_map (λ body. started body.lines id task None) (body_of decls task)
 
--- where the tasks and the handler of a node have come to in their bodies
-pub record Places : Type 0 where
-  pub tasks : List ℕ  -- by task id
-  pub handler : ℕ  -- of the handler that has begun
+-- the tasks of so many ids, from this one on
+unfoldable pub tasks_started : NodeId → List Decl → ℕ → ℕ → List (Option Interpreter)
+tasks_started id decls zero first = []
+tasks_started id decls (suc n) first = task_started id decls (record { 0 = first }) ∷ tasks_started id decls n (first + 1)
 
--- a place, one further in a body that has a line there
-abbrev pub onward : ℕ → ℕ → ℕ
-onward lines place = if nat_lt place lines then place + 1 else place
+-- the handler that has begun
+abbrev pub handler_started : NodeId → List Decl → Option Handler → Option Interpreter
+handler_started id decls None = None
+handler_started id decls (Some h) = option_map (λ body. started body.lines id (record { 0 = 0 }) (Some h)) (handler_body decls h)
 
--- the places of tasks after one of them made its next call
-abbrev pub moved_on : List Decl → TaskId → List ℕ → List ℕ
-moved_on decls task places = slice_set places task.0 (onward (length (body_of decls task)) (slice_index places task.0))
+-- ---- what is done next
 
--- the places after a mark: a task that begins is at the first line of its body
-abbrev pub after_mark : Mark → List ℕ → List ℕ
-after_mark (Begun task) places = slice_set places task.0 0
-after_mark _ places = places
+-- a task makes its next call; it doesn't finish, but ends
+abbrev pub requested : Want → Req
+requested (wants.Call request) = request
+requested wants.Finish = ExtTsk
 
--- and after the marks of an entry, one after another
-abbrev pub after_marks : List Mark → List ℕ → List ℕ
-after_marks [] places = places
-after_marks (m ∷ ms) places = after_marks ms (after_mark m places)
+abbrev pub task_request : Option Interpreter → Req
+task_request None = ExtTsk
+task_request (Some i) = requested (wanted i)
+
+-- a handler makes its next call, or finishes
+abbrev pub handler_wants : Option Interpreter → Want
+handler_wants None = wants.Finish
+handler_wants (Some i) = wanted i
+
+abbrev pub wanted_event : NodeId → Want → Event
+wanted_event id (wants.Call request) = events.Call id contexts.Handler request
+wanted_event id wants.Finish = events.Finish id
+
+abbrev pub handler_event : NodeId → Option Interpreter → Event
+handler_event id i = wanted_event id (handler_wants i)
+
+-- ---- after an event
+
+-- a task that makes its next call has come up to it
+abbrev pub tasks_asked : Event → List (Option Interpreter) → List (Option Interpreter)
+tasks_asked (events.Call at (contexts.Task task) request) tasks = slice_set tasks task.0 (option_map up_to_call (get tasks task.0))
+tasks_asked _ tasks = tasks
+
+-- and so has a handler
+abbrev pub handler_asked : Event → Option Interpreter → Option Interpreter
+handler_asked (events.Call at contexts.Handler request) handler = option_map up_to_call handler
+handler_asked (events.Finish at) handler = option_map up_to_call handler
+handler_asked _ handler = handler
+
+-- a call that is accepted and not waited for is answered E_WBLK
+abbrev pub answered_by : Ans → Interpreter → Interpreter
+answered_by (answers.Now code bytes) i = told code bytes i
+answered_by (answers.Later number) i = told E_WBLK [] i
+answered_by (answers.Pends number) i = i
+answered_by answers.Quiet i = i
+
+-- a task is told the answer of its call at once, or when it returns
+abbrev pub tasks_answered : Event → Ans → List (Option Interpreter) → List (Option Interpreter)
+tasks_answered (events.Call at (contexts.Task task) request) ans tasks = slice_set tasks task.0 (option_map (answered_by ans) (get tasks task.0))
+tasks_answered (events.Return at task) ans tasks = slice_set tasks task.0 (option_map (answered_by ans) (get tasks task.0))
+tasks_answered _ ans tasks = tasks
+
+-- a handler is told the answer of its call, and one that begins is before its first line
+abbrev pub handler_answered : NodeId → List Decl → Event → Ans → Option Handler → Option Interpreter → Option Interpreter
+handler_answered id decls (events.Call at contexts.Handler request) ans begun handler = option_map (answered_by ans) handler
+handler_answered id decls (events.Begin at) ans begun handler = handler_started id decls begun
+handler_answered id decls _ ans begun handler = handler
+
+-- a task that begins is before the first line of its body
+abbrev pub after_mark : NodeId → List Decl → Mark → List (Option Interpreter) → List (Option Interpreter)
+after_mark id decls (Begun task) tasks = slice_set tasks task.0 (task_started id decls task)
+after_mark id decls _ tasks = tasks
+
+-- so with each mark of an entry, one after another
+abbrev pub after_marks : NodeId → List Decl → List Mark → List (Option Interpreter) → List (Option Interpreter)
+after_marks id decls [] tasks = tasks
+after_marks id decls (m ∷ ms) tasks = after_marks id decls ms (after_mark id decls m tasks)

@@ -1,2 +1,6 @@
-pub mod Stepping
-pub mod Looping
+mod Asking
+mod Begun
+mod LinkNumbers
+mod Looping
+mod Opening
+mod Stepping

@@ -1,48 +1,50 @@
 -- The loop over the events of a script.
-use Rattle.std.proofs.Common.{◌≡◌, ℕ, ◌+◌, ◌-◌, ◌<◌, ◌≤◌, Bool, true, false, not, List, [], ◌∷◌, ◌++◌, length, refl, sym, ap, ◌∙◌, inl, inr, arith}
+use Rattle.std.proofs.Common.{◌≡◌, ℕ, ◌+◌, ◌-◌, ◌<◌, Bool, true, false, not, List, [], ◌∷◌, ◌++◌, length, refl, sym, ap, subst, ◌∙◌, inl, inr, arith}
 use Rattle.std.proofs.Math.Bool.{not-not}
 use mathlib.Core.Logic.{◌⊎◌}
 use Rattle.std.proofs.lemmas.List.{append-nil, length-append}
-use Rattle.it_types.specs.declared.id.NodeId.{NodeId}
 use Rattle.it_types.specs.declared.event.Event.{Event}
-use Rattle.it_types.specs.declared.mark.Mark.{Mark}
 use Rattle.it_types.specs.declared.entry.Entry.{Entry}
-use Rattle.spec_script.specs.declared.decl.Decl.{Decl}
 use Rattle.spec_script.specs.declared.script.Script.{Script}
 use Rattle.spec_script.specs.Configuration.{conf_of}
 use Rattle.spec_world.specs.PlainWorld.{step}
+use Rattle.spec_world.specs.Admitted.{is_admitted}
 use Rattle.spec_world.specs.Sizes.{entry_limit, is_full}
-use Rattle.spec_world.specs.History.{is_stop, ends_with_stop, opened_history, world_of}
+use Rattle.spec_world.specs.History.{is_stop, ends_with_stop, world_of}
 use Rattle.spec_world.proofs.Events.{step-ev}
 use Rattle.spec_world.proofs.Appending.{stops_more}
 use Rattle.spec_world.proofs.Room.{room_short}
-use Rattle.spec_sim.specs.Bodies.{Places}
-use Rattle.spec_sim.specs.Schedule.{Plan, PlainPlay, plan_of, first_places, node_0, node_1, next, places_after, after}
+use Rattle.spec_sim.specs.Schedule.{Plan, PlainPlay, AreSent, plan_of, next, after}
 use Rattle.spec_sim.specs.Serial.{run, serial}
+use Rattle.spec_sim.proofs.Sent.{after_sent}
+use Rattle.spec_sim.proofs.Turns.{next_admitted}
 use Rattle.spec_sim.proofs.Underway.{rest, one_more, full_whole, after-entry}
-use Rattle.w_sim.specs.Playing.{Playing, GoesOn, play_of, moved}
-use Rattle.w_sim.proofs.Stepping.{moved_play, handler_one}
+use Rattle.w_sim.specs.Playing.{Playing, GoesOn, moved, opened_play, play_of}
+use Rattle.w_sim.proofs.Stepping.{moved_play}
+
+-- each delivery that is left is of a packet that was sent
+abbrev pub IsSent : PlainPlay → Type 0
+IsSent p = AreSent (length p.world.packets) p.link
 
 -- the history so far is the beginning of the script's, and goes on by the schedule, or has come to the stop
 pub record IsSoFar (s : Script) (going : Bool) (p : Playing) : Type 0 where
   pub conf : p.history.conf ≡ conf_of s
   pub lives : p.history.ended ≡ false
   pub ends : ends_with_stop p.history.log ≡ not going
-  pub first : p.first.handler ≤ length p.history.log
-  pub second : p.second.handler ≤ length p.history.log
+  pub sent : IsSent (play_of p)
   pub whole : p.history.log ++ rest going (entry_limit - length p.history.log) (plan_of s) (play_of p) ≡ serial s
 
-pub begins : (s : Script) (p : Playing) → p ≡ record { history = opened_history (conf_of s); first = first_places; second = first_places; delivered = 0 } → IsSoFar s true p
-begins s p e = rw e (record { conf = refl; lives = refl; ends = refl; first = omega arith; second = omega arith; whole = refl })
+pub begins : (s : Script) (p : Playing) → p ≡ opened_play s → IsSoFar s true p
+begins s p e = rw e (record { conf = refl; lives = refl; ends = refl; sent = tt; whole = refl })
 
 pub goes_on : (s : Script) (p : Playing) → IsSoFar s true p → is_full p.history.log ≡ false → GoesOn p
-goes_on s p h room = record { lives = h.lives; going = h.ends; room = room; first = h.first; second = h.second }
+goes_on s p h room = record { lives = h.lives; going = h.ends; room = room }
 
--- an entry more, and at most a call more of a handler
-call_more : (p : Playing) (id : NodeId) (decls : List Decl) (event : Event) (marked : List Mark) (places : Places) (e : Entry)
-    → places.handler ≤ length p.history.log
-    → (places_after id decls event marked places).handler ≤ length (p.history.log ++ e ∷ [])
-call_more p id decls event marked places e le = omega (arith, le, handler_one id decls event marked places, length-append p.history.log (e ∷ []))
+pub admits : (s : Script) (p : Playing) (event : Event) → IsSoFar s true p → event ≡ next (plan_of s) (play_of p) → is_admitted (world_of p.history) event ≡ true
+admits s p event h e = ap (is_admitted (world_of p.history)) e ∙ next_admitted (plan_of s) (play_of p) h.sent
+
+sent_more : (plan : Plan) (p : Playing) (event : Event) → IsSent (play_of p) → IsSent (play_of (moved plan p event))
+sent_more plan p event sent = subst IsSent (sym (moved_play plan p event)) (after_sent plan (play_of p) event sent)
 
 -- the history with the entry of the next event
 whole_more : (whole : List Entry) (plan : Plan) (p : Playing) (event : Event)
@@ -71,8 +73,7 @@ steps s p q event h room e to = rw to (record {
   conf = h.conf;
   lives = h.lives;
   ends = stops_more p.history.log (step (world_of p.history) event).1 ∙ ap is_stop (step-ev (world_of p.history) event) ∙ sym (not-not (is_stop event));
-  first = call_more p node_0 (plan_of s).first event (step (world_of p.history) event).1.marks p.first (step (world_of p.history) event).1 h.first;
-  second = call_more p node_1 (plan_of s).second event (step (world_of p.history) event).1.marks p.second (step (world_of p.history) event).1 h.second;
+  sent = sent_more (plan_of s) p event h.sent;
   whole = whole_more (serial s) (plan_of s) p event room e h.whole;
 })
 

@@ -1,88 +1,78 @@
-//! The schedule's choice of the next event.
+//! The schedule's choice of the next event. The task or handler that makes it has come up to it then, and a delivery is taken from
+//! the link. Without memory the play is not used again.
 
 ghost use Rattle.std.specs.Prelude.{◌≡◌, false, IfOk};
-ghost use Rattle.spec_world.specs.History.{world_of};
-ghost use Rattle.spec_sim.specs.Schedule.{plan_of, is_outstanding, is_over, idle_event, running_event, packet_event, due_event, next};
-ghost use Rattle.w_sim.specs.Playing.{play_of};
+ghost use Rattle.spec_sim.specs.Schedule.{plan_of, is_over, idle_event, running_event, packet_event, due_event, next};
+ghost use Rattle.w_sim.specs.Playing.{asked_play, play_of};
 
-use crate::body::{first_decls, second_decls};
+use crate::nodes::{first_node, second_node};
 use crate::play::Play;
-use crate::turn::{handler_event, task_event};
-use it_types::{Event, NoMemory, NodeId, PackNo};
+use it_types::{Event, NoMemory, NodeId};
 use spec_script::Script;
 use std::alloc::Global;
 
-impl Play {
+impl<'a> Play<'a> {
     /// The next event of the schedule: that of the handler that has begun on node 0, else of that of node 1, else what
     /// follows on them.
-    pub fn next(&self, alloc: Global, script: &Script) -> Result<Event, NoMemory>
-        requires { self.now.history.ended ≡ false }
-        ensures { IfOk result (λ e. e ≡ next (plan_of script.now) (play_of self.now)) }
+    pub fn next(&mut self, alloc: Global, script: &Script) -> Result<Event, NoMemory>
+        requires { self.old.history.ended ≡ false }
+        ensures event { IfOk result (λ event. event ≡ next (plan_of script.now) (play_of self.old)) }
+        ensures place { IfOk result (λ event. self.new ≡ asked_play self.old event) }
     {
-        if let Some(handler) = self.first_node().handler() {
-            let place = self.first.of_handler();
-            return handler_event(alloc, NodeId(0), first_decls(script), handler, place);
+        if first_node(&self.world).handler().is_some() {
+            return self.first.handler_event(alloc, NodeId(0));
         }
-        if let Some(handler) = self.second_node().handler() {
-            let place = self.second.of_handler();
-            return handler_event(alloc, NodeId(1), second_decls(script), handler, place);
+        if second_node(&self.world).handler().is_some() {
+            return self.second.handler_event(alloc, NodeId(1));
         }
         self.due_event(alloc, script)
     }
 
     /// A handler that is due on node 0 begins, else one that is due on node 1, else what follows on handlers.
-    fn due_event(&self, alloc: Global, script: &Script) -> Result<Event, NoMemory>
-        requires { self.now.history.ended ≡ false }
-        ensures { IfOk result (λ e. e ≡ due_event (plan_of script.now) (play_of self.now)) }
+    fn due_event(&mut self, alloc: Global, script: &Script) -> Result<Event, NoMemory>
+        requires { self.old.history.ended ≡ false }
+        ensures event { IfOk result (λ event. event ≡ due_event (plan_of script.now) (play_of self.old)) }
+        ensures place { IfOk result (λ event. self.new ≡ asked_play self.old event) }
     {
-        if self.first_node().has_due() {
+        if first_node(&self.world).has_due() {
             Ok(Event::Begin(NodeId(0)))
-        } else if self.second_node().has_due() {
+        } else if second_node(&self.world).has_due() {
             Ok(Event::Begin(NodeId(1)))
         } else {
             self.packet_event(alloc, script)
         }
     }
 
-    /// The delivery of the next packet where one is outstanding, else what the running tasks do.
-    fn packet_event(&self, alloc: Global, script: &Script) -> Result<Event, NoMemory>
-        requires { self.now.history.ended ≡ false }
-        ensures { IfOk result (λ e. e ≡ packet_event (plan_of script.now) (play_of self.now)) }
+    /// The first delivery that is due by the ticks of node 0, else what the running tasks do.
+    fn packet_event(&mut self, alloc: Global, script: &Script) -> Result<Event, NoMemory>
+        requires { self.old.history.ended ≡ false }
+        ensures event { IfOk result (λ event. event ≡ packet_event (plan_of script.now) (play_of self.old)) }
+        ensures place { IfOk result (λ event. self.new ≡ asked_play self.old event) }
     {
-        if self.is_outstanding() {
-            return Ok(Event::Deliver(PackNo(self.delivered)));
+        let now = first_node(&self.world).now();
+        if let Some(packet) = self.link.next(now) {
+            return Ok(Event::Deliver(packet));
         }
         self.running_event(alloc, script)
     }
 
     /// The event of the running task of node 0, else that of node 1, else the stop or a tick.
-    fn running_event(&self, alloc: Global, script: &Script) -> Result<Event, NoMemory>
-        requires { self.now.history.ended ≡ false }
-        ensures { IfOk result (λ e. e ≡ running_event (plan_of script.now) (play_of self.now)) }
+    fn running_event(&mut self, alloc: Global, script: &Script) -> Result<Event, NoMemory>
+        requires { self.old.history.ended ≡ false }
+        ensures event { IfOk result (λ event. event ≡ running_event (plan_of script.now) (play_of self.old)) }
+        ensures place { IfOk result (λ event. self.new ≡ asked_play self.old event) }
     {
-        let first = self.first_node();
-        let second = self.second_node();
+        let first = first_node(&self.world);
+        let second = second_node(&self.world);
         if first.running().0 != 0 {
-            let task = first.running();
-            return task_event(
-                alloc,
-                NodeId(0),
-                first,
-                &self.first,
-                first_decls(script),
-                task,
-            );
+            return self
+                .first
+                .task_event(alloc, NodeId(0), first, first.running());
         }
         if second.running().0 != 0 {
-            let task = second.running();
-            return task_event(
-                alloc,
-                NodeId(1),
-                second,
-                &self.second,
-                second_decls(script),
-                task,
-            );
+            return self
+                .second
+                .task_event(alloc, NodeId(1), second, second.running());
         }
         Ok(self.idle_event(script))
     }
@@ -94,29 +84,22 @@ impl Play {
     {
         if self.is_over(script) {
             Event::Stop
-        } else if self.first_node().now() <= self.second_node().now() {
+        } else if first_node(&self.world).now() <= second_node(&self.world).now() {
             Event::Tick(NodeId(0))
         } else {
             Event::Tick(NodeId(1))
         }
     }
 
-    /// Whether every task of both nodes is dormant and no packet is outstanding, or both nodes had all their ticks.
+    /// Whether every task of both nodes is dormant and no delivery is left, or both nodes had all their ticks.
     fn is_over(&self, script: &Script) -> bool
         requires { self.now.history.ended ≡ false }
         ensures { result ≡ is_over (plan_of script.now) (play_of self.now) }
     {
         let ticks = u64::from(script.ticks);
-        let first = self.first_node();
-        let second = self.second_node();
+        let first = first_node(&self.world);
+        let second = second_node(&self.world);
         let dormant = !first.is_any_active() && !second.is_any_active();
-        (dormant && !self.is_outstanding()) || (ticks <= first.now() && ticks <= second.now())
-    }
-
-    /// Whether a packet was sent and not delivered yet.
-    fn is_outstanding(&self) -> bool
-        ensures { result ≡ is_outstanding (play_of self.now) }
-    {
-        self.delivered < self.world.packets()
+        (dormant && self.link.idle()) || (ticks <= first.now() && ticks <= second.now())
     }
 }

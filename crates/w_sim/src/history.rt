@@ -16,8 +16,8 @@ fn is_stop(event: &Event) -> bool
     matches!(event, Event::Stop)
 }
 
-/// Runs the script: its two nodes, from their opening, up to the stop of the schedule or until the history is full. Without
-/// memory there is no world.
+/// Runs the script: its two nodes and the link between them, from their opening, up to the stop of the schedule or until the history
+/// is full. Without memory there is no world.
 pub fn sim(alloc: Global, script: &Script) -> Result<World, NoMemory>
     requires { IsGood script.now }
     ensures log { IfOk result (λ w. w.log ≡ serial script.now) }

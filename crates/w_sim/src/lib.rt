@@ -1,11 +1,13 @@
-//! Runs scripts over two nodes: event by event, by the schedule.
+//! Runs scripts over two nodes and the link between them: event by event, by the schedule.
 #![tactic(auto)]
 
 mod body;
 mod choosing;
 mod history;
-mod places;
+mod interpreters;
+mod interpreting;
+mod nodes;
 mod play;
-mod turn;
+mod starting;
 
 pub use history::sim;

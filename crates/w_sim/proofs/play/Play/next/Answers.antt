@@ -1,23 +1,24 @@
 use Rattle.std.proofs.Common.{sym, ap, ◌∙◌}
+use Rattle.std.specs.Prelude.{is_some}
 use Rattle.spec_node.specs.PlainNode.{PlainNode}
 use Rattle.spec_sim.specs.Schedule.{plan_of}
-use Rattle.spec_sim.proofs.Turns.{next_of_first_begun, next_of_second_begun, next_of_none_begun}
-use Rattle.w_sim.specs.Playing.{play_of}
+use Rattle.w_sim.specs.Playing.{Playing, play_of}
+use Rattle.w_sim.proofs.Begun.{still_some, first_goes_on, second_goes_on, none_goes_on}
 use Rattle.w_sim.proofs.play.Play.next.Goals as goal
 
-pub returns-in-Some : goal.returns-in-Some
-returns-in-Some c =
-    let begun = ap (λ (n : PlainNode). n.begun) (sym c.first_node.ensures) ∙ sym c.in-Some.ensures in
-    rw (next_of_first_begun (plan_of c.args.script.now) (play_of c.args.self.now) c.in-Some.handler.now begun, ← c.self.view_is, ← c.first_decls.ensures, ← c.of_handler-place.ensures) c.handler_event.ensures
+pub returns-then-is_some-clause-event : goal.returns-then-is_some-clause-event
+returns-then-is_some-clause-event c =
+    let begun = ap (λ (n : PlainNode). is_some n.begun) (sym c.first_node.ensures) ∙ ap is_some (sym c.handler.ensures) ∙ still_some _ c.handler.result ∙ sym c.is_some.ensures ∙ c.if-is_some.true in
+    rw (first_goes_on (plan_of c.args.script.now) (play_of c.args.self.now) (ap (λ (p : Playing). is_some (play_of p).world.nodes.first.begun) (sym c.self.view_is) ∙ begun), ← c.self.view_is) c.handler_event.ensures.event
 
-pub returns-in-Some-handler : goal.returns-in-Some-handler
-returns-in-Some-handler c =
-    let none = ap (λ (n : PlainNode). n.begun) (sym c.first_node.ensures) ∙ sym c.in_default.ensures in
-    let begun = ap (λ (n : PlainNode). n.begun) (sym c.second_node.ensures) ∙ sym c.in-Some-handler.ensures in
-    rw (next_of_second_begun (plan_of c.args.script.now) (play_of c.args.self.now) c.in-Some-handler.handler.now none begun, ← c.self.view_is, ← c.second_decls.ensures, ← c.of_handler-place-in-Some-handler.ensures) c.handler_event-in-Some-handler.ensures
+pub returns-then-is_some-2-clause-event : goal.returns-then-is_some-2-clause-event
+returns-then-is_some-2-clause-event c =
+    let none = ap (λ (n : PlainNode). is_some n.begun) (sym c.first_node.ensures) ∙ ap is_some (sym c.handler.ensures) ∙ still_some _ c.handler.result ∙ sym c.is_some.ensures ∙ c.if-is_some.false in
+    let begun = ap (λ (n : PlainNode). is_some n.begun) (sym c.second_node.ensures) ∙ ap is_some (sym c.handler-2.ensures) ∙ still_some _ c.handler-2.result ∙ sym c.is_some-2.ensures ∙ c.if-is_some-2.true in
+    rw (second_goes_on (plan_of c.args.script.now) (play_of c.args.self.now) (ap (λ (p : Playing). is_some (play_of p).world.nodes.first.begun) (sym c.self.view_is) ∙ none) (ap (λ (p : Playing). is_some (play_of p).world.nodes.second.begun) (sym c.self.view_is) ∙ begun), ← c.self.view_is) c.handler_event-then-is_some-2.ensures.event
 
-pub returns : goal.returns
-returns c =
-    let none = ap (λ (n : PlainNode). n.begun) (sym c.first_node.ensures) ∙ sym c.in_default.ensures in
-    let second_none = ap (λ (n : PlainNode). n.begun) (sym c.second_node.ensures) ∙ sym c.in_default-handler.ensures in
-    rw (next_of_none_begun (plan_of c.args.script.now) (play_of c.args.self.now) none second_none) c.due_event.ensures
+pub returns-clause-event : goal.returns-clause-event
+returns-clause-event c =
+    let none = ap (λ (n : PlainNode). is_some n.begun) (sym c.first_node.ensures) ∙ ap is_some (sym c.handler.ensures) ∙ still_some _ c.handler.result ∙ sym c.is_some.ensures ∙ c.if-is_some.false in
+    let second_none = ap (λ (n : PlainNode). is_some n.begun) (sym c.second_node.ensures) ∙ ap is_some (sym c.handler-2.ensures) ∙ still_some _ c.handler-2.result ∙ sym c.is_some-2.ensures ∙ c.if-is_some-2.false in
+    rw (none_goes_on (plan_of c.args.script.now) (play_of c.args.self.now) (ap (λ (p : Playing). is_some (play_of p).world.nodes.first.begun) (sym c.self.view_is) ∙ none) (ap (λ (p : Playing). is_some (play_of p).world.nodes.second.begun) (sym c.self.view_is) ∙ second_none)) c.due_event.ensures.event
