@@ -1,5 +1,5 @@
 -- How an input that the source tells is answered.
-use Rattle.std.proofs.Common.{◌≡◌, ◌≢◌, ℕ, ◌<◌, ◌≤◌, ◌+◌, List, ◌++◌, length, take, Option, None, Some, Bool, true, false, Result, Ok, subst, sym, ap, ◌∙◌, append-nil, length-append, arith, refl, inl, inr}
+use Rattle.std.proofs.Common.{◌≡◌, ◌≢◌, ℕ, ◌<◌, ◌≤◌, ◌+◌, List, ◌++◌, length, take, Option, None, Some, Bool, true, false, Result, Ok, Err, subst, sym, ap, ◌∙◌, append-nil, length-append, arith, refl, inl, inr}
 use mathlib.Core.Logic.{◌⊎◌}
 use Rattle.std.specs.Io.KnownBytes.{Appends}
 use Rattle.it_io.specs.declared.writing.WriteErr.{WriteErr}
@@ -8,13 +8,14 @@ use Rattle.it_io.specs.Input.{ReadToEnd, TookPast}
 use Rattle.s_script.specs.declared.read_bad.Why.{Why}
 use Rattle.spec_script.specs.declared.script.Script.{Script}
 use Rattle.spec_script.specs.Text.{IsReadAs}
-use Rattle.s_script.specs.declared.read_bad.Why.TheVariants.{Form}
+use Rattle.s_script.specs.Reading.{read_text}
 use Rattle.s_script.proofs.ReadBack.{read_back}
+use Rattle.s_script.proofs.Led.{read_as as is_read}
 use Rattle.spec_world.specs.History.{ends_with_stop}
 use Rattle.spec_sim.specs.Serial.{serial}
 use Rattle.itron.specs.declared.status.Status.{Status}
 use Rattle.itron.specs.declared.status.Status.TheVariants as statuses
-use Rattle.itron.specs.Top.{input_limit, ReadScript, RanToStop, RanToLimit, ReadNoScript, WrotePart}
+use Rattle.itron.specs.Top.{input_limit, IsAnswer, IsRefusal, ReadScript, RanToStop, RanToLimit, ReadWrong, WrotePart}
 
 -- where the sink failed, the first bytes were written
 pub part_of : (e : WriteErr) (before after : Option (List ℕ)) (bytes : List ℕ) → ((n : ℕ) → e ≡ Fault n → n < length bytes) → ((n : ℕ) → e ≡ Fault n → Appends before after (take n bytes)) → WrotePart before after bytes
@@ -53,7 +54,7 @@ same_script left rest bytes s input known is =
 
 -- a script within the limit is run, where nothing fails: up to the stop, or until its history is full
 run_or_memory : (r : Status) (left rest : Option (List ℕ)) (bytes : List ℕ) (s : Script) (F W : Type 0) → left ≡ Some bytes → length bytes ≤ input_limit → IsReadAs bytes s → (F → ⊥) → (W → ⊥)
-    → (r ≢ statuses.Usage) → ((l : ℕ) (w : Why) → r ≡ statuses.Script l w → (l ≡ 0) × (w ≡ Form) × ReadNoScript left rest) → (r ≡ statuses.ReadFault → F) → (r ≡ statuses.WriteFault → W)
+    → (r ≢ statuses.Usage) → ((l : ℕ) (w : Why) → r ≡ statuses.Script l w → ReadWrong l w left rest) → (r ≡ statuses.ReadFault → F) → (r ≡ statuses.WriteFault → W)
     → (r ≡ statuses.TooBig → TookPast left rest input_limit) → (r ≡ statuses.Ok) ⊎ ((r ≡ statuses.TooLong) ⊎ (r ≡ statuses.NoMemory))
 run_or_memory statuses.Ok left rest bytes s F W known le is no_f no_w usage script fault write big = inl refl
 run_or_memory statuses.TooLong left rest bytes s F W known le is no_f no_w usage script fault write big = inr (inl refl)
@@ -63,8 +64,8 @@ run_or_memory statuses.ReadFault left rest bytes s F W known le is no_f no_w usa
 run_or_memory statuses.WriteFault left rest bytes s F W known le is no_f no_w usage script fault write big = absurd (no_w (write refl))
 run_or_memory statuses.TooBig left rest bytes s F W known le is no_f no_w usage script fault write big = absurd (not_past left rest bytes input_limit known le (big refl))
 run_or_memory (statuses.Script l w) left rest bytes s F W known le is no_f no_w usage script fault write big =
-    let none = (script l w refl).2 in
-    absurd (none.wrong s (subst (λ (t : List ℕ). IsReadAs t s) (sym (whole left rest bytes none.bytes known none.whole)) is))
+    let none = script l w refl in
+    absurd (none.none s (subst (λ (t : List ℕ). IsReadAs t s) (sym (whole left rest bytes none.bytes known none.whole)) is))
 
 abbrev stops : Script → Bool
 stops s = ends_with_stop (serial s)
@@ -80,7 +81,7 @@ without_stop r none (inr e) = e
 
 -- one whose history ends with the stop is not told to be too long
 pub complete : (r : Status) (left rest before after : Option (List ℕ)) (bytes : List ℕ) (s : Script) (F W : Type 0) → left ≡ Some bytes → length bytes ≤ input_limit → IsReadAs bytes s → (F → ⊥) → (W → ⊥)
-    → (r ≢ statuses.Usage) → ((l : ℕ) (w : Why) → r ≡ statuses.Script l w → (l ≡ 0) × (w ≡ Form) × ReadNoScript left rest) → (r ≡ statuses.ReadFault → F) → (r ≡ statuses.WriteFault → W)
+    → (r ≢ statuses.Usage) → ((l : ℕ) (w : Why) → r ≡ statuses.Script l w → ReadWrong l w left rest) → (r ≡ statuses.ReadFault → F) → (r ≡ statuses.WriteFault → W)
     → (r ≡ statuses.TooBig → TookPast left rest input_limit) → (r ≡ statuses.TooLong → RanToLimit left rest before after) → stops s ≡ true → (r ≡ statuses.Ok) ⊎ (r ≡ statuses.NoMemory)
 complete r left rest before after bytes s F W known le is no_f no_w usage script fault write big long stop =
     without_limit r
@@ -89,7 +90,7 @@ complete r left rest before after bytes s F W known le is no_f no_w usage script
 
 -- and one whose history doesn't end with it is told so
 pub complete_to_limit : (r : Status) (left rest before after : Option (List ℕ)) (bytes : List ℕ) (s : Script) (F W : Type 0) → left ≡ Some bytes → length bytes ≤ input_limit → IsReadAs bytes s → (F → ⊥) → (W → ⊥)
-    → (r ≢ statuses.Usage) → ((l : ℕ) (w : Why) → r ≡ statuses.Script l w → (l ≡ 0) × (w ≡ Form) × ReadNoScript left rest) → (r ≡ statuses.ReadFault → F) → (r ≡ statuses.WriteFault → W)
+    → (r ≢ statuses.Usage) → ((l : ℕ) (w : Why) → r ≡ statuses.Script l w → ReadWrong l w left rest) → (r ≡ statuses.ReadFault → F) → (r ≡ statuses.WriteFault → W)
     → (r ≡ statuses.TooBig → TookPast left rest input_limit) → (r ≡ statuses.Ok → RanToStop left rest before after) → stops s ≡ false → (r ≡ statuses.TooLong) ⊎ (r ≡ statuses.NoMemory)
 complete_to_limit r left rest before after bytes s F W known le is no_f no_w usage script fault write big whole_run goes_on =
     without_stop r
@@ -98,23 +99,76 @@ complete_to_limit r left rest before after bytes s F W known le is no_f no_w usa
 
 -- ---- what is no script
 
--- what is no script is told so, where the input can be read
-pub refused : (r : Status) (left rest : Option (List ℕ)) (bytes : List ℕ) → left ≡ Some bytes → length bytes ≤ input_limit → ((s : Script) → IsReadAs bytes s → ⊥)
+-- how it is answered
+pub refusal_is : (r status : Status) → IsRefusal r → r ≡ status → IsRefusal status
+refusal_is r status refusal e = subst IsRefusal e refusal
+
+pub answer_is : (r status : Status) → IsAnswer r → r ≡ status → IsAnswer status
+answer_is r status answer e = subst IsAnswer e answer
+
+pub refusal_answers : (r : Status) → IsRefusal r → IsAnswer r
+refusal_answers (statuses.Script line why) refusal = tt
+refusal_answers statuses.NoMemory refusal = tt
+refusal_answers statuses.Ok refusal = absurd refusal
+refusal_answers statuses.Usage refusal = absurd refusal
+refusal_answers statuses.ReadFault refusal = absurd refusal
+refusal_answers statuses.WriteFault refusal = absurd refusal
+refusal_answers statuses.TooLong refusal = absurd refusal
+refusal_answers statuses.TooBig refusal = absurd refusal
+
+abbrev wrong_at : ℕ → Why → Result Script (ℕ × Why)
+wrong_at l w = Err (l, w)
+
+-- how a text is answered that is read so
+abbrev status_of : Result Script (ℕ × Why) → Status
+status_of (Ok s) = statuses.Ok
+status_of (Err wrong) = statuses.Script wrong.0 wrong.1
+
+-- a text has one first wrong line, with one first cause
+same_refusal : (text : List ℕ) (k l : ℕ) (v w : Why) → read_text text ≡ Err (k, v) → read_text text ≡ Err (l, w) → statuses.Script k v ≡ statuses.Script l w
+same_refusal text k l v w first second = let same : wrong_at k v ≡ wrong_at l w = sym first ∙ second in ap status_of same
+
+-- a text that is wrong is read as no script
+pub read_not_refused : (text : List ℕ) (s : Script) (l : ℕ) (w : Why) → IsReadAs text s → read_text text ≡ Err (l, w) → ⊥
+read_not_refused text s l w is wrong = let both : read_as s ≡ wrong_at l w = sym (read_back text s is) ∙ wrong in cc
+
+input_not_refused : (left rest : Option (List ℕ)) (bytes : List ℕ) (l : ℕ) (w : Why) → left ≡ Some bytes → read_text bytes ≡ Err (l, w) → ReadScript left rest → ⊥
+input_not_refused left rest bytes l w known wrong input =
+    read_not_refused bytes input.script l w (subst (λ (t : List ℕ). IsReadAs t input.script) (whole left rest bytes input.bytes known input.whole) input.read) wrong
+
+told_is : (left rest : Option (List ℕ)) (bytes : List ℕ) (k l : ℕ) (v w : Why) → left ≡ Some bytes → read_text bytes ≡ Err (l, w) → ReadWrong k v left rest → statuses.Script k v ≡ statuses.Script l w
+told_is left rest bytes k l v w known wrong told =
+    same_refusal bytes k l v w (subst (λ (t : List ℕ). read_text t ≡ Err (k, v)) (whole left rest bytes told.bytes known told.whole) told.wrong) wrong
+
+-- what is no script is told so, by its first wrong line and the first cause, where the input can be read
+pub refused : (r : Status) (left rest : Option (List ℕ)) (bytes : List ℕ) (l : ℕ) (w : Why) → left ≡ Some bytes → length bytes ≤ input_limit → read_text bytes ≡ Err (l, w)
     → (r ≢ statuses.Usage) → (r ≡ statuses.Ok → ReadScript left rest) → (r ≡ statuses.TooLong → ReadScript left rest) → (r ≡ statuses.WriteFault → ReadScript left rest)
-    → ((l : ℕ) (w : Why) → r ≡ statuses.Script l w → (l ≡ 0) × (w ≡ Form) × ReadNoScript left rest) → (r ≡ statuses.TooBig → TookPast left rest input_limit)
-    → (r ≡ statuses.Script 0 Form) ⊎ ((r ≡ statuses.NoMemory) ⊎ (r ≡ statuses.ReadFault))
-refused statuses.NoMemory left rest bytes known le none usage ok long write script big = inr (inl refl)
-refused statuses.ReadFault left rest bytes known le none usage ok long write script big = inr (inr refl)
-refused statuses.Usage left rest bytes known le none usage ok long write script big = absurd (usage refl)
-refused statuses.TooBig left rest bytes known le none usage ok long write script big = absurd (not_past left rest bytes input_limit known le (big refl))
-refused statuses.Ok left rest bytes known le none usage ok long write script big =
-    let read = ok refl in absurd (none read.script (subst (λ (t : List ℕ). IsReadAs t read.script) (whole left rest bytes read.bytes known read.whole) read.read))
-refused statuses.TooLong left rest bytes known le none usage ok long write script big =
-    let read = long refl in absurd (none read.script (subst (λ (t : List ℕ). IsReadAs t read.script) (whole left rest bytes read.bytes known read.whole) read.read))
-refused statuses.WriteFault left rest bytes known le none usage ok long write script big =
-    let read = write refl in absurd (none read.script (subst (λ (t : List ℕ). IsReadAs t read.script) (whole left rest bytes read.bytes known read.whole) read.read))
-refused (statuses.Script l w) left rest bytes known le none usage ok long write script big =
-    let place = script l w refl in
-    let at : l ≡ 0 = place.0 in
-    let why : w ≡ Form = place.1 in
-    inl cc
+    → ((k : ℕ) (v : Why) → r ≡ statuses.Script k v → ReadWrong k v left rest) → (r ≡ statuses.TooBig → TookPast left rest input_limit)
+    → (r ≡ statuses.Script l w) ⊎ ((r ≡ statuses.NoMemory) ⊎ (r ≡ statuses.ReadFault))
+refused statuses.NoMemory left rest bytes l w known le wrong usage ok long write script big = inr (inl refl)
+refused statuses.ReadFault left rest bytes l w known le wrong usage ok long write script big = inr (inr refl)
+refused statuses.Usage left rest bytes l w known le wrong usage ok long write script big = absurd (usage refl)
+refused statuses.TooBig left rest bytes l w known le wrong usage ok long write script big = absurd (not_past left rest bytes input_limit known le (big refl))
+refused statuses.Ok left rest bytes l w known le wrong usage ok long write script big = absurd (input_not_refused left rest bytes l w known wrong (ok refl))
+refused statuses.TooLong left rest bytes l w known le wrong usage ok long write script big = absurd (input_not_refused left rest bytes l w known wrong (long refl))
+refused statuses.WriteFault left rest bytes l w known le wrong usage ok long write script big = absurd (input_not_refused left rest bytes l w known wrong (write refl))
+refused (statuses.Script k v) left rest bytes l w known le wrong usage ok long write script big = inl (told_is left rest bytes k l v w known wrong (script k v refl))
+
+-- what is read as no script has a first wrong line
+wrong_line : (text : List ℕ) (answer : Result Script (ℕ × Why)) → read_text text ≡ answer → ((s : Script) → IsReadAs text s → ⊥) → (l : ℕ) × (w : Why) × (read_text text ≡ Err (l, w))
+wrong_line text (Ok s) e none = absurd (none s (is_read text s e))
+wrong_line text (Err wrong) e none = (wrong.0, wrong.1, e)
+
+some_line : (r : Status) (l : ℕ) (w : Why) → (r ≡ statuses.Script l w) ⊎ ((r ≡ statuses.NoMemory) ⊎ (r ≡ statuses.ReadFault))
+    → ((k : ℕ) × (v : Why) × (r ≡ statuses.Script k v)) ⊎ ((r ≡ statuses.NoMemory) ⊎ (r ≡ statuses.ReadFault))
+some_line r l w (inl e) = inl (l, w, e)
+some_line r l w (inr e) = inr e
+
+-- and is told by a line
+pub no_script : (r : Status) (left rest : Option (List ℕ)) (bytes : List ℕ) → left ≡ Some bytes → length bytes ≤ input_limit → ((s : Script) → IsReadAs bytes s → ⊥)
+    → (r ≢ statuses.Usage) → (r ≡ statuses.Ok → ReadScript left rest) → (r ≡ statuses.TooLong → ReadScript left rest) → (r ≡ statuses.WriteFault → ReadScript left rest)
+    → ((k : ℕ) (v : Why) → r ≡ statuses.Script k v → ReadWrong k v left rest) → (r ≡ statuses.TooBig → TookPast left rest input_limit)
+    → ((l : ℕ) × (w : Why) × (r ≡ statuses.Script l w)) ⊎ ((r ≡ statuses.NoMemory) ⊎ (r ≡ statuses.ReadFault))
+no_script r left rest bytes known le none usage ok long write script big =
+    let wrong = wrong_line bytes (read_text bytes) refl none in
+    some_line r wrong.0 wrong.1 (refused r left rest bytes wrong.0 wrong.1 known le wrong.2 usage ok long write script big)

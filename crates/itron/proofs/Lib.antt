@@ -1,4 +1,3 @@
 pub mod OneWord
 pub mod Answered
-pub mod Statuses
 pub mod Ran

@@ -1,7 +1,7 @@
 -- How the program tells that a run has ended: its exit codes and its lines on standard error, which are this project's own.
 use Rattle.std.specs.Prelude.{ℕ, List, [], codes}
 use Rattle.s_script.specs.declared.read_bad.Why.{Why}
-use Rattle.s_script.specs.declared.read_bad.Why.TheVariants.{Form, Range, Twice, Missing}
+use Rattle.s_script.specs.declared.read_bad.Why.TheVariants.{Form, Range, Twice, Nest, Missing}
 use Rattle.itron.specs.declared.status.Status.{Status}
 use Rattle.itron.specs.declared.status.Status.TheVariants.{Ok, Usage, Script, ReadFault, WriteFault, TooLong, NoMemory, TooBig}
 
@@ -19,6 +19,7 @@ abbrev pub cause_word_of : Why → List ℕ
 cause_word_of Form = codes "form"
 cause_word_of Range = codes "range"
 cause_word_of Twice = codes "twice"
+cause_word_of Nest = codes "nest"
 cause_word_of Missing = codes "missing"
 
 -- the line on standard error, nothing where all went well; of a script that is wrong the cause, which stands behind the line's number

@@ -1,7 +1,9 @@
 -- What a run of the program reads and writes, which is this project's own.
-use Rattle.std.specs.Prelude.{◌≡◌, ℕ, ◌<◌, true, false, List, [], ◌∷◌, ◌++◌, Option, codes, length, take}
+use Rattle.std.specs.Prelude.{◌≡◌, ℕ, ◌<◌, true, false, List, [], ◌∷◌, ◌++◌, Option, Err, codes, length, take}
 use Rattle.std.specs.Io.KnownBytes.{Appends}
 use Rattle.it_io.specs.Input.{ReadToEnd}
+use Rattle.s_script.specs.declared.read_bad.Why.{Why}
+use Rattle.s_script.specs.Reading.{read_text}
 use Rattle.spec_script.specs.declared.script.Script.{Script}
 use Rattle.spec_script.specs.Lines.{script_text}
 use Rattle.spec_script.specs.Text.{IsReadAs}
@@ -14,6 +16,8 @@ use Rattle.spec_sim.specs.Serial.{serial}
 use Rattle.laws_world.specs.AtRest.{LogRests}
 use Rattle.laws_world.specs.OnceInBoth.{LogOnce}
 use Rattle.laws_world.specs.CauseInBoth.{LogCaused}
+use Rattle.itron.specs.declared.status.Status.{Status}
+use Rattle.itron.specs.declared.status.Status.TheVariants as statuses
 
 -- the words of the command that runs a script
 abbrev pub sim_words : List (List ℕ)
@@ -66,8 +70,22 @@ pub record RanPart (left_before left_after written_before written_after : Option
   pub input : ReadScript left_before left_after
   pub wrote : WrotePart written_before written_after (output_of input.script)
 
--- the input was read to its end, and is no script
-pub record ReadNoScript (left_before left_after : Option (List ℕ)) : Type 0 where
+-- the input was read to its end, and is no script: this is its first wrong line, with the first cause
+pub record ReadWrong (line : ℕ) (why : Why) (left_before left_after : Option (List ℕ)) : Type 0 where
   pub bytes : List ℕ
   pub whole : ReadToEnd left_before left_after bytes
-  pub wrong : (s : Script) → IsReadAs bytes s → ⊥
+  pub wrong : read_text bytes ≡ Err (line, why)
+  pub none : (s : Script) → IsReadAs bytes s → ⊥
+
+-- how an input is answered for which nothing is written
+abbrev pub IsRefusal : Status → Type 0
+IsRefusal (statuses.Script line why) = Unit {0}
+IsRefusal statuses.NoMemory = Unit {0}
+IsRefusal _ = ⊥
+
+-- how an input is answered that was read
+abbrev pub IsAnswer : Status → Type 0
+IsAnswer statuses.Ok = Unit {0}
+IsAnswer statuses.TooLong = Unit {0}
+IsAnswer statuses.WriteFault = Unit {0}
+IsAnswer status = IsRefusal status

@@ -1,16 +1,18 @@
 //! What is written of a script.
 
-ghost use Rattle.std.specs.Prelude.{◌≡◌, ◌⊎◌, ℕ, List, Err, IfOk};
+ghost use Rattle.std.specs.Prelude.{◌≡◌, ℕ, Err, IfOk};
 ghost use Rattle.s_script.specs.declared.read_bad.Why.{Why as Cause};
+ghost use Rattle.s_script.specs.Reading.{read_text};
 ghost use Rattle.spec_script.specs.declared.script.Script.{Script as AScript};
 ghost use Rattle.spec_script.specs.Ranges.{IsGood};
 ghost use Rattle.spec_script.specs.Text.{IsReadAs};
 ghost use Rattle.itron.specs.declared.status.Status.{Status as AStatus};
 ghost use Rattle.itron.specs.Prints.{Prints};
+ghost use Rattle.itron.specs.Top.{IsRefusal};
 
 use crate::status::Status;
 use it_types::NoMemory;
-use s_script::{ReadBad, Why, read};
+use s_script::{ReadBad, read};
 use spec_script::Script;
 use std::alloc::Global;
 use w_sim::sim;
@@ -49,15 +51,15 @@ fn output_or_status(alloc: Global, script: &Script) -> Result<Output, Status>
     }
 }
 
-/// The whole output for an input that is a script.
+/// The whole output for an input that is a script; else its first wrong line, with the first cause.
 pub fn output_for(alloc: Global, input: &[u8]) -> Result<Output, Status>
     ensures ok { IfOk result (λ o. (s : AScript) × IsReadAs input.now s × Prints s o) }
-    ensures script { (l : ℕ) (w : Cause) → result ≡ Err (Status.Script l w) → (s : AScript) → IsReadAs input.now s → ⊥ }
-    ensures only { (e : AStatus) → result ≡ Err e → (e ≡ Status.Script 0 Why.Form) ⊎ (e ≡ Status.NoMemory) }
+    ensures script { (l : ℕ) (w : Cause) → result ≡ Err (Status.Script l w) → read_text input.now ≡ Err (l, w) }
+    ensures only { (e : AStatus) → result ≡ Err e → IsRefusal e }
 {
     match read(alloc, input) {
         Ok(script) => output_or_status(alloc, &script),
-        Err(ReadBad::Refused(_, _)) => Err(Status::Script(0, Why::Form)),
+        Err(ReadBad::Refused(line, why)) => Err(Status::Script(line, why)),
         Err(ReadBad::NoMemory) => Err(Status::NoMemory),
     }
 }

@@ -10,7 +10,7 @@ pub enum Status {
     Ok,
     /// The command line is faulty.
     Usage,
-    /// The input is no script: its first wrong line, 0 where no place is told, and why it is wrong.
+    /// The input is no script: its first wrong line, counted from 1, and the first cause for which it is wrong.
     Script(usize, Why),
     /// The input could not be read.
     ReadFault,
@@ -67,6 +67,7 @@ pub fn cause_word(why: Why) -> &'static str
         Why::Form => "form",
         Why::Range => "range",
         Why::Twice => "twice",
+        Why::Nest => "nest",
         Why::Missing => "missing",
     }
 }

@@ -3,13 +3,13 @@ ghost use Rattle.std.specs.Io.KnownBytes.{Appends};
 ghost use Rattle.it_io.specs.Faults.{Rose, next_count};
 ghost use Rattle.it_io.specs.Input.{ReadToEnd, TookAtMost, TookPast};
 ghost use Rattle.s_script.specs.declared.read_bad.Why.{Why as Cause};
-ghost use Rattle.s_script.specs.declared.read_bad.Why.TheVariants.{Form};
+ghost use Rattle.s_script.specs.Reading.{read_text};
 ghost use Rattle.spec_script.specs.declared.script.Script.{Script as AScript};
 ghost use Rattle.spec_script.specs.Text.{IsReadAs};
 ghost use Rattle.spec_world.specs.History.{ends_with_stop};
 ghost use Rattle.spec_sim.specs.Serial.{serial};
 ghost use Rattle.itron.specs.declared.status.Status.{Status as AStatus};
-ghost use Rattle.itron.specs.Top.{sim_words, input_limit, output_of, ReadScript, RanToStop, RanToLimit, ReadNoScript, WrotePart, RanPart};
+ghost use Rattle.itron.specs.Top.{sim_words, input_limit, output_of, IsAnswer, ReadScript, RanToStop, RanToLimit, ReadWrong, WrotePart, RanPart};
 
 use crate::output::{Output, output_for};
 use crate::status::Status;
@@ -61,13 +61,13 @@ fn write_output<K: Sink>(out: &mut K, output: &Output) -> Status
 fn answer<K: Sink>(alloc: Global, input: &[u8], out: &mut K) -> Status
     ensures ok { result ≡ Status.Ok → (s : AScript) × IsReadAs input.now s × Appends (K.written out.old) (K.written out.new) (output_of s) × (ends_with_stop (serial s) ≡ true) }
     ensures too_long { result ≡ Status.TooLong → (s : AScript) × IsReadAs input.now s × Appends (K.written out.old) (K.written out.new) (output_of s) × (ends_with_stop (serial s) ≡ false) }
-    ensures script { (l : ℕ) (w : Cause) → result ≡ Status.Script l w → (s : AScript) → IsReadAs input.now s → ⊥ }
+    ensures script { (l : ℕ) (w : Cause) → result ≡ Status.Script l w → read_text input.now ≡ Err (l, w) }
     ensures write_fault { result ≡ Status.WriteFault → Rose (K.faults out.old) (K.faults out.new) }
     ensures was_script { result ≡ Status.WriteFault → (s : AScript) × IsReadAs input.now s }
     ensures part { result ≡ Status.WriteFault → (s : AScript) × IsReadAs input.now s × WrotePart (K.written out.old) (K.written out.new) (output_of s) }
     ensures no_write_fault { result ≢ Status.WriteFault → K.faults out.new ≡ K.faults out.old }
     ensures untouched { (result ≢ Status.Ok) → (result ≢ Status.TooLong) → (result ≢ Status.WriteFault) → out.new ≡ out.old }
-    ensures only { (result ≡ Status.Ok) ⊎ ((result ≡ Status.TooLong) ⊎ ((result ≡ Status.WriteFault) ⊎ ((result ≡ Status.Script 0 Form) ⊎ (result ≡ Status.NoMemory)))) }
+    ensures only { IsAnswer result }
 {
     match output_for(alloc, input) {
         Ok(output) => write_output(out, &output),
@@ -80,7 +80,7 @@ fn run<S: Source, K: Sink>(alloc: Global, src: &mut S, out: &mut K) -> Status
     ensures ok { result ≡ Status.Ok → RanToStop (S.left src.old) (S.left src.new) (K.written out.old) (K.written out.new) }
     ensures too_long { result ≡ Status.TooLong → RanToLimit (S.left src.old) (S.left src.new) (K.written out.old) (K.written out.new) }
     ensures usage { result ≢ Status.Usage }
-    ensures script { (l : ℕ) (w : Cause) → result ≡ Status.Script l w → (l ≡ 0) × (w ≡ Form) × ReadNoScript (S.left src.old) (S.left src.new) }
+    ensures script { (l : ℕ) (w : Cause) → result ≡ Status.Script l w → ReadWrong l w (S.left src.old) (S.left src.new) }
     ensures read_fault { result ≡ Status.ReadFault → Rose (S.faults src.old) (S.faults src.new) }
     ensures no_fault { result ≢ Status.ReadFault → S.faults src.new ≡ S.faults src.old }
     ensures write_fault { result ≡ Status.WriteFault → Rose (K.faults out.old) (K.faults out.new) }
@@ -112,7 +112,7 @@ pub fn top<S: Source, K: Sink>(alloc: Global, words: &[String], src: &mut S, out
 
     // Each other status with its cause.
     ensures usage { (result ≡ Status.Usage) ↔ (map string_bytes words.now ≢ sim_words) }
-    ensures script { (l : ℕ) (w : Cause) → result ≡ Status.Script l w → (l ≡ 0) × (w ≡ Form) × ReadNoScript (S.left src.old) (S.left src.new) }
+    ensures script { (l : ℕ) (w : Cause) → result ≡ Status.Script l w → ReadWrong l w (S.left src.old) (S.left src.new) }
     ensures read_fault { result ≡ Status.ReadFault → Rose (S.faults src.old) (S.faults src.new) }
     ensures no_fault { result ≢ Status.ReadFault → S.faults src.new ≡ S.faults src.old }
     ensures write_fault { result ≡ Status.WriteFault → Rose (K.faults out.old) (K.faults out.new) }
@@ -138,9 +138,12 @@ pub fn top<S: Source, K: Sink>(alloc: Global, words: &[String], src: &mut S, out
     ensures complete_to_limit { (bytes : List ℕ) (s : AScript) → map string_bytes words.now ≡ sim_words → S.left src.old ≡ Some bytes → length bytes ≤ input_limit
         → IsReadAs bytes s → (Rose (S.faults src.old) (S.faults src.new) → ⊥) → (Rose (K.faults out.old) (K.faults out.new) → ⊥)
         → ends_with_stop (serial s) ≡ false → (result ≡ Status.TooLong) ⊎ (result ≡ Status.NoMemory) }
-    ensures refused { (bytes : List ℕ) → map string_bytes words.now ≡ sim_words → S.left src.old ≡ Some bytes → length bytes ≤ input_limit
+    ensures refused { (bytes : List ℕ) (l : ℕ) (w : Cause) → map string_bytes words.now ≡ sim_words → S.left src.old ≡ Some bytes → length bytes ≤ input_limit
+        → read_text bytes ≡ Err (l, w)
+        → (result ≡ Status.Script l w) ⊎ ((result ≡ Status.NoMemory) ⊎ (result ≡ Status.ReadFault)) }
+    ensures no_script { (bytes : List ℕ) → map string_bytes words.now ≡ sim_words → S.left src.old ≡ Some bytes → length bytes ≤ input_limit
         → ((s : AScript) → IsReadAs bytes s → ⊥)
-        → (result ≡ Status.Script 0 Form) ⊎ ((result ≡ Status.NoMemory) ⊎ (result ≡ Status.ReadFault)) }
+        → ((l : ℕ) × (w : Cause) × (result ≡ Status.Script l w)) ⊎ ((result ≡ Status.NoMemory) ⊎ (result ≡ Status.ReadFault)) }
 {
     if !is_sim(words) {
         return Status::Usage;
