@@ -50,7 +50,7 @@ without_allocation words_memory 5
 without_allocation later 60
 wait
 expect_of example 'an example before any proof' 0 examples/exchange.txt "$notice"
-expect_of wrong 'a wrong script before any proof' 3 "$work/empty" "${notice}line 0: form
+expect_of wrong 'a wrong script before any proof' 3 "$work/empty" "${notice}line 12: missing
 "
 expect_of words 'a faulty command line before any proof' 2 "$work/empty" "${notice}usage: itron sim, audit, shape, run or gen N
 "

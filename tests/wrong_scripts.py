@@ -1,6 +1,7 @@
 """Runs the program on inputs derived from good scripts, and compares its exit status and both streams with what must come.
 
-Which inputs are scripts a second reader decides, written here from docs/SCRIPT.md alone. Where an input is known to be good or bad
+Which inputs are scripts a second reader decides, and of the others the first wrong line and its first cause, written here from
+docs/SCRIPT.md alone. Where an input is known to be good or bad
 from the way it was made, that is compared too. Words: the program's path, and `kinds` for a line of counts for each kind of input.
 """
 
@@ -16,49 +17,60 @@ LIMIT = 1048576
 WORKERS = 4
 SHOWN = 5
 SCRIPT, WRONG, TOO_BIG = 'a script', 'no script', 'too big'
-REFUSALS = {WRONG: (3, b'line 0: form\n'), TOO_BIG: (10, b'input too big\n')}
+FORM, RANGE, TWICE, NEST, MISSING = 'form', 'range', 'twice', 'nest', 'missing'
 
 
-# The reader. It takes the words of a line, which one space parts: so two spaces have an empty word between them.
+# The reader. It takes the words of a line, which one space parts: so two spaces have an empty word between them. A test of a word
+# gives None where the word has not the form, and else whether it is in its range.
 
 NUMBER = re.compile(rb'0|[1-9][0-9]*')
 DATA = re.compile(rb'x([0-9a-f]{2}){0,1024}')
 
 
-def is_number(word, low, high):
-    """Whether a word is a number of this range. Above all ranges are those of more than 20 digits."""
-    return NUMBER.fullmatch(word) is not None and len(word) <= 20 and low <= int(word) <= high
+def within(low, high):
+    """A number of this range. Above all ranges are the numbers of more than 20 digits."""
+    return lambda word: None if NUMBER.fullmatch(word) is None else len(word) <= 20 and low <= int(word) <= high
 
 
-def is_word32(word):
-    return is_number(word, 0, 2**32 - 1)
+def one_of(*words):
+    return lambda word: True if word in words else None
+
+
+def all_of(tests):
+    """The answer to several tests: a word that has not the form counts more than one that is out of its range."""
+    answers = list(tests)
+    return None if None in answers else all(answers)
 
 
 def is_address(word):
     parts = word.split(b'.')
-    return len(parts) == 4 and all(is_number(part, 0, 255) for part in parts)
+    return all_of(within(0, 255)(part) for part in parts) if len(parts) == 4 else None
+
+
+def is_node_address(word):
+    answer = is_address(word)
+    return answer and word != b'0.0.0.0'
 
 
 def is_destination(word):
     parts = word.split(b':')
-    return len(parts) == 2 and is_address(parts[0]) and is_number(parts[1], 0, 65535)
+    return all_of([is_address(parts[0]), within(0, 65535)(parts[1])]) if len(parts) == 2 else None
+
+
+def is_destination_or_peer(word):
+    return True if word == b'peer' else is_destination(word)
 
 
 def is_data(word):
-    return DATA.fullmatch(word) is not None
+    return True if word == b'buf' or DATA.fullmatch(word) else None
 
 
 def is_time_out(word):
-    return word in (b'pol', b'nblk', b'fevr') or is_number(word, 1, 1000000)
+    return True if word in (b'pol', b'nblk', b'fevr') else within(1, 1000000)(word)
 
 
-def within(low, high):
-    return lambda word: is_number(word, low, high)
-
-
-def one_of(*words):
-    return lambda word: word in words
-
+is_word32 = within(0, 2**32 - 1)
+is_port = within(0, 65535)
 
 CALLS = {
     b'act_tsk': [is_word32],
@@ -89,15 +101,37 @@ CALLS = {
     b'get_tim': [],
     b'sta_cyc': [is_word32],
     b'stp_cyc': [is_word32],
-    b'udp_cre_cep': [is_word32, within(0, 65535), is_word32],
+    b'tcp_cre_rep': [is_word32, is_port],
+    b'tcp_del_rep': [is_word32],
+    b'tcp_cre_cep': [is_word32, is_word32, is_word32, is_word32],
+    b'tcp_del_cep': [is_word32],
+    b'tcp_acp_cep': [is_word32, is_word32, is_time_out],
+    b'tcp_con_cep': [is_word32, is_port, is_destination, is_time_out],
+    b'tcp_sht_cep': [is_word32],
+    b'tcp_cls_cep': [is_word32, is_time_out],
+    b'tcp_snd_dat': [is_word32, is_data, is_time_out],
+    b'tcp_rcv_dat': [is_word32, is_word32, is_time_out],
+    b'tcp_get_buf': [is_word32, is_time_out],
+    b'tcp_snd_buf': [is_word32, is_data],
+    b'tcp_rcv_buf': [is_word32, is_time_out],
+    b'tcp_rel_buf': [is_word32, is_word32],
+    b'tcp_can_cep': [is_word32, one_of(b'all', b'acp_cep', b'con_cep', b'cls_cep', b'snd_dat', b'rcv_dat', b'get_buf', b'rcv_buf')],
+    b'udp_cre_cep': [is_word32, is_port, is_word32],
     b'udp_del_cep': [is_word32],
-    b'udp_snd_dat': [is_word32, is_destination, is_data, is_time_out],
+    b'udp_snd_dat': [is_word32, is_destination_or_peer, is_data, is_time_out],
     b'udp_rcv_dat': [is_word32, is_word32, is_time_out],
     b'udp_can_cep': [is_word32, one_of(b'all', b'snd_dat', b'rcv_dat')],
 }
 
+STEPS = {
+    b'fill': [within(0, 65280)],
+    b'loop': [within(1, 65535)],
+    b'pool': [],
+    b'until': [one_of(b'end', b'fail', b'empty')],
+}
+
 DECLARATIONS = {
-    b'sem': [within(1, 16), one_of(b'fifo', b'pri'), is_word32, within(1, 65535)],
+    b'sem': [within(1, 16), one_of(b'fifo', b'pri'), within(0, 65535), within(1, 65535)],
     b'flg': [within(1, 16), one_of(b'fifo', b'pri'), one_of(b'one', b'many'), one_of(b'clr', b'keep'), is_word32],
     b'dtq': [within(1, 16), one_of(b'fifo', b'pri'), within(0, 1024)],
     b'task': [within(1, 16), within(1, 16), one_of(b'act', b'dor')],
@@ -105,85 +139,129 @@ DECLARATIONS = {
     b'cbr': [within(1, 16)],
 }
 
-# The declarations that have a body.
-TASK, HANDLERS = b'task', (b'cyc', b'cbr')
+HEAD = [
+    {b'itron': [one_of(b'1')]},
+    {b'link': [within(0, 2**64 - 1), within(0, 16), within(0, 16), within(0, 1000)]},
+    {b'ticks': [within(0, 400000)]},
+    {b'node': [one_of(b'0'), is_node_address, is_word32, within(0, 2000000000)]},
+]
+SECOND = {b'node': [one_of(b'1'), is_node_address, is_word32, within(0, 2000000000)]}
+
+WITH_BODY = (b'task', b'cyc', b'cbr')
 
 
-def fits(forms, words):
-    """Whether the first word is in the table, and the others pass its tests."""
+def answer_of(forms, words):
+    """Whether words are a line of one of these forms whose numbers are in their ranges; None where they have none of the forms."""
     tests = forms.get(words[0])
-    return tests is not None and len(words) == len(tests) + 1 and all(test(word) for test, word in zip(tests, words[1:]))
+    return all_of(test(word) for test, word in zip(tests, words[1:])) if tests is not None and len(words) == len(tests) + 1 else None
 
 
-def is_call(line, of_task):
-    """Whether a line can stand in the body of a task, or else of a handler."""
-    return fits(CALLS, line.split(b' ')) and (of_task or line != b'ext_tsk')
+class Reader:
+    """A script so far. Each kind of place has a method that gives a line's first cause, or None after it has taken the line."""
 
+    def __init__(self):
+        self.head = 0
+        self.address = None
+        self.second = False
+        self.declared = set()
+        self.owner = None
+        self.body = 0
+        self.loops = 0
 
-def is_link(line):
-    words = line.split(b' ')
-    return len(words) == 5 and words[0] == b'link' and is_number(words[1], 0, 2**64 - 1) and words[2:] == [b'0', b'0', b'0']
+    def whole(self):
+        return self.second and self.owner is None
 
+    def take(self, line):
+        words = line.split(b' ')
+        if self.head < len(HEAD):
+            return self.take_head(words)
+        if self.owner is not None:
+            return self.take_in_body(line, words)
+        return self.take_node(words) if words[0] == b'node' else self.take_declaration(words)
 
-def is_ticks(line):
-    words = line.split(b' ')
-    return len(words) == 2 and words[0] == b'ticks' and is_number(words[1], 0, 400000)
-
-
-def address_of_node(line, node):
-    """The address of the line of a node, or None where it is no such line."""
-    words = line.split(b' ')
-    if len(words) != 5 or words[:2] != [b'node', node] or not is_address(words[2]) or words[2] == b'0.0.0.0':
+    def take_head(self, words):
+        answer = answer_of(HEAD[self.head], words)
+        if answer is None:
+            return FORM
+        if not answer or (words[0] == b'link' and int(words[2]) + int(words[3]) > 16):
+            return RANGE
+        self.head += 1
+        self.address = words[2] if words[0] == b'node' else None
         return None
-    return words[2] if is_word32(words[3]) and is_number(words[4], 0, 2000000000) else None
+
+    def take_node(self, words):
+        answer = None if self.second else answer_of(SECOND, words)
+        if answer is None:
+            return FORM
+        if not answer or words[2] == self.address:
+            return RANGE
+        self.second = True
+        self.declared = set()
+        return None
+
+    def take_declaration(self, words):
+        answer = answer_of(DECLARATIONS, words)
+        if answer is None:
+            return FORM
+        if not answer or (words[0] == b'sem' and int(words[3]) > int(words[4])):
+            return RANGE
+        if (words[0], words[1]) in self.declared:
+            return TWICE
+        self.declared.add((words[0], words[1]))
+        if words[0] in WITH_BODY:
+            self.owner, self.body, self.loops = words[0], 0, 0
+        return None
+
+    def take_in_body(self, line, words):
+        if line == b'end':
+            if self.loops > 0:
+                return NEST
+            self.owner = None
+            return None
+        answer = answer_of(STEPS if words[0] in STEPS else CALLS, words)
+        if answer is None or (line == b'ext_tsk' and self.owner != b'task'):
+            return FORM
+        if not answer or self.body == 1000:
+            return RANGE
+        if (words[0] in (b'pool', b'until') and self.loops == 0) or (words[0] == b'loop' and self.loops == 4):
+            return NEST
+        self.body += 1
+        self.loops += {b'loop': 1, b'pool': -1}.get(words[0], 0)
+        return None
 
 
-def is_declaration(words):
-    return fits(DECLARATIONS, words) and (words[0] != b'sem' or int(words[3]) <= int(words[4]))
-
-
-def are_declarations(lines):
-    """Whether lines are the declarations of one node."""
-    declared = set()
-    at = 0
-    while at < len(lines):
-        words = lines[at].split(b' ')
-        at += 1
-        if not is_declaration(words) or (words[0], words[1]) in declared:
-            return False
-        declared.add((words[0], words[1]))
-        if words[0] == TASK or words[0] in HANDLERS:
-            if b'end' not in lines[at:]:
-                return False
-            end = lines.index(b'end', at)
-            if end - at > 1000 or not all(is_call(line, words[0] == TASK) for line in lines[at:end]):
-                return False
-            at = end + 1
-    return True
+def is_skipped(line):
+    return not line or line.startswith(b'#')
 
 
 def kept(text):
     """The lines that aren't skipped, without their LF."""
-    return [line for line in text.split(b'\n') if line and not line.startswith(b'#')]
-
-
-def is_script(text):
-    lines = kept(text)
-    if not text.endswith(b'\n') or len(lines) < 5 or lines[0] != b'itron 1' or not is_link(lines[1]) or not is_ticks(lines[2]):
-        return False
-    first = address_of_node(lines[3], b'0')
-    seconds = [at for at in range(4, len(lines)) if lines[at].startswith(b'node')]
-    if first is None or len(seconds) != 1:
-        return False
-    second = address_of_node(lines[seconds[0]], b'1')
-    return (second is not None and second != first
-            and are_declarations(lines[4:seconds[0]]) and are_declarations(lines[seconds[0] + 1:]))
+    return [line for line in text.split(b'\n') if not is_skipped(line)]
 
 
 def verdict(text):
+    """What the text is: a script, too big, or the first wrong line with its first cause."""
     if len(text) > LIMIT:
         return TOO_BIG
-    return SCRIPT if is_script(text) else WRONG
+    reader = Reader()
+    lines = text.split(b'\n')
+    for number, line in enumerate(lines[:-1], 1):
+        cause = None if is_skipped(line) else reader.take(line)
+        if cause is not None:
+            return number, cause
+    return SCRIPT if lines[-1] == b'' and reader.whole() else (len(lines), MISSING)
+
+
+def agrees(known, wanted):
+    """Whether what is known of an input from the way it was made agrees with the reader."""
+    return known is None or wanted == known or (known == WRONG and isinstance(wanted, tuple))
+
+
+def refusal(wanted):
+    """The exit status and the line on standard error."""
+    if wanted == SCRIPT:
+        return 0, b''
+    return (10, b'input too big\n') if wanted == TOO_BIG else (3, f'line {wanted[0]}: {wanted[1]}\n'.encode())
 
 
 # The inputs. Each has a kind, a name, its bytes, and a verdict where one is known from the way it was made.
@@ -247,7 +325,65 @@ VALUES = [b'', b'0', b'00', b'01', b'+1', b'-1', b'1', b'2', b'16', b'17', b'255
           b'9223372036854775807', b'9223372036854775808', b'18446744073709551615', b'18446744073709551616', b'9' * 5000]
 
 
-WORDS = [b'pol', b'nblk', b'fevr', b'FEVR', b'act', b'fifo', b'x', b'x0', b'xab', b'xAB', b'x0g', b'0.0.0.0', b'10.0.0.1', b'10.0.0.2',
+# Each line that a body may have, in tasks that never run.
+LANGUAGE = b'''itron 1
+link 0 8 8 1000
+ticks 5
+node 0 10.0.0.1 0 0
+task 1 1 act
+fill 3
+loop 1
+until empty
+udp_snd_dat 1 peer buf pol
+pool
+end
+task 2 2 dor
+fill 65280
+loop 65535
+loop 1
+loop 2
+loop 3
+until end
+until fail
+pool
+until empty
+pool
+pool
+pool
+tcp_cre_rep 1 80
+tcp_del_rep 1
+tcp_cre_cep 1 1024 1024 0
+tcp_del_cep 1
+tcp_acp_cep 1 1 fevr
+tcp_con_cep 1 0 10.0.0.2:80 5
+tcp_sht_cep 1
+tcp_cls_cep 1 nblk
+tcp_snd_dat 1 buf fevr
+tcp_snd_dat 1 x00 pol
+tcp_rcv_dat 1 10 fevr
+tcp_get_buf 1 fevr
+tcp_snd_buf 1 buf
+tcp_snd_buf 1 x
+tcp_rcv_buf 1 fevr
+tcp_rel_buf 1 4
+tcp_can_cep 1 get_buf
+udp_snd_dat 1 10.0.0.2:9 buf fevr
+udp_snd_dat 1 peer x01 fevr
+end
+cyc 1 1000000 0 off
+loop 2
+pool
+end
+node 1 10.0.0.2 0 0
+cbr 1
+loop 2
+until end
+sig_sem 1
+pool
+end
+'''
+
+WORDS = [b'buf', b'peer', b'loop', b'pool', b'until', b'fill', b'empty', b'fail', b'pol', b'nblk', b'fevr', b'FEVR', b'act', b'fifo', b'x', b'x0', b'xab', b'xAB', b'x0g', b'0.0.0.0', b'10.0.0.1', b'10.0.0.2',
          b'10.0.0.2.', b'0.0.0.0:0', b'10.0.0.2:65536', b'sem', b'flg', b'dtq', b'task', b'end', b'node', b'sig_sem', b'ext_tsk',
          b'get_tid', b'tcp_del_rep', b'cyc', b'cbr', b'on', b'all', b'pri', b'many', b'keep', b'dor', b'or', b'#', b'\t']
 
@@ -323,11 +459,51 @@ def long_bodies(text):
     """Bodies of 999 to 1,001 lines, and of 1,000 lines with as many that are skipped; `text` has the body of one line 7."""
     lines = lines_of(text)
     for name, body, known in [
-            ('999 lines', lines[6] * 999, SCRIPT), ('1,000 lines', lines[6] * 1000, SCRIPT), ('1,001 lines', lines[6] * 1001, WRONG),
+            ('999 lines', lines[6] * 999, SCRIPT), ('1,000 lines', lines[6] * 1000, SCRIPT), ('1,001 lines', lines[6] * 1001, (1007, RANGE)),
+            ('1,001 lines, the last one wrong too', lines[6] * 1000 + b'pool\n', (1007, RANGE)),
+            ('1,001 lines, the last one no line', lines[6] * 1000 + b'pool 1\n', (1007, FORM)),
+            ('1,000 lines and an open loop', lines[6] * 999 + b'loop 1\n', (1007, NEST)),
             ('1,000 lines and as many comments', (lines[6] + b'#\n') * 1000, SCRIPT),
             ('1,000 lines and as many empty ones', (b'\n' + lines[6]) * 1000, SCRIPT),
             ('2,000 comments', b'#\n' * 2000, SCRIPT)]:
         yield Input('limits', f'a body of {name}', b''.join(lines[:6]) + body + b''.join(lines[7:]), known)
+
+
+def nested(text):
+    """Loops that nest, and that do not; `text` has the body of one line 7, in a task, and its end in line 8."""
+    lines = lines_of(text)
+    for name, body, known in [
+            ('four loops', b'loop 1\n' * 4 + b'pool\n' * 4, SCRIPT), ('five loops', b'loop 1\n' * 5 + b'pool\n' * 5, (11, NEST)),
+            ('five loops, four at once', (b'loop 1\n' * 4 + b'pool\n') * 1 + b'loop 1\n' + b'pool\n' * 4, SCRIPT),
+            ('a loop without its end', b'loop 1\n', (8, NEST)), ('an end without its loop', b'pool\n', (7, NEST)),
+            ('an end too many', b'loop 1\npool\npool\n', (9, NEST)), ('a way out of no loop', b'until end\n', (7, NEST)),
+            ('a way out behind a loop', b'loop 1\npool\nuntil empty\n', (9, NEST)),
+            ('a fifth loop out of its range', b'loop 1\n' * 4 + b'loop 0\n', (11, RANGE)),
+            ('a fifth loop without its number', b'loop 1\n' * 4 + b'loop\n', (11, FORM)),
+            ('no lines', b'', SCRIPT)]:
+        yield Input('loops', f'a body of {name}', b''.join(lines[:6]) + body + b''.join(lines[7:]), known)
+    for opening in (b'cyc 1 1 0 off\n', b'cbr 1\n'):
+        for name, body, known in [('ext_tsk', b'ext_tsk\n', (6, FORM)), ('a loop', b'loop 2\npool\n', SCRIPT), ('an open loop', b'loop 2\n', (7, NEST)),
+                                  ('ext_tsk after comments', b'#\n\next_tsk\n', (8, FORM))]:
+            yield Input('loops', f'{name} in the body of {opening.decode()[:3]}', b''.join(lines[:4]) + opening + body + b'end\n' + b''.join(lines[5:]), known)
+
+
+def causes(text):
+    """Texts whose first wrong line and cause are known: the first that is wrong, and of its causes the first."""
+    lines = lines_of(text)
+    for name, made, known in [
+            ('nothing', b'', (1, MISSING)), ('a line without LF', b'itron 1', (1, MISSING)), ('a comment without LF', b'#', (1, MISSING)),
+            ('a first line with a leading zero', b'itron 01\n', (1, FORM)), ('another version', b'itron 2\n', (1, FORM)),
+            ('a link of 17 parts', lines[0] + b'link 1 9 8 0\n', (2, RANGE)), ('a link of 16 parts', lines[0] + b'link 1 9 7 1000\n', (3, MISSING)),
+            ('a delay of 1,001', lines[0] + b'link 1 0 0 1001\n', (2, RANGE)), ('too many ticks', b''.join(lines[:2]) + b'ticks 400001\n', (3, RANGE)),
+            ('the head alone', b''.join(lines[:4]), (5, MISSING)), ('a head with skipped lines', b'#\n\n'.join(lines[:4]), (11, MISSING)),
+            ('a semaphore twice', b''.join(lines[:4]) + b'sem 1 fifo 0 1\n' * 2, (6, TWICE)),
+            ('a semaphore twice, out of its range', b''.join(lines[:4]) + b'sem 1 fifo 0 1\nsem 1 fifo 2 1\n', (6, RANGE)),
+            ('a semaphore twice, with a word more', b''.join(lines[:4]) + b'sem 1 fifo 0 1\nsem 1 fifo 0 1 1\n', (6, FORM)),
+            ('the end of a loop without one', b''.join(lines[:4]) + b'task 1 1 act\npool\n', (6, NEST)),
+            ('the end of a loop outside a body', b''.join(lines[:4]) + b'pool\n', (5, FORM)),
+            ('both nodes at one address', b''.join(lines[:4]) + b'node 1 10.0.0.1 0 0\n', (5, RANGE))]:
+        yield Input('causes', name, made, known)
 
 
 def large(text):
@@ -363,7 +539,7 @@ def binary(text):
 def inputs():
     """All inputs, each once: of the same bytes the first one."""
     examples = ('examples/handoff.itron', 'examples/exchange.itron')
-    scripts = [(path, pathlib.Path(path).read_bytes()) for path in examples] + [('the script of limits', LIMITS)]
+    scripts = [(path, pathlib.Path(path).read_bytes()) for path in examples] + [('the script of limits', LIMITS), ('the script of all lines', LANGUAGE)]
     found = {}
     for name, text in scripts:
         made = [Input('whole', name, text, SCRIPT)]
@@ -372,7 +548,7 @@ def inputs():
         made.append(Input('CR LF', f'{name} with CR LF', text.replace(b'\n', b'\r\n'), WRONG))
         for each in made:
             found.setdefault(each.text, each)
-    for make in (long_bodies, large, binary):
+    for make in (long_bodies, nested, causes, large, binary):
         for each in make(scripts[0][1]):
             found.setdefault(each.text, each)
     return list(found.values())
@@ -383,13 +559,13 @@ def inputs():
 def difference(program, given):
     """What is wrong with the run on an input, or None."""
     wanted = verdict(given.text)
-    if given.known not in (None, wanted):
+    if not agrees(given.known, wanted):
         return f'known to be {given.known}, and {wanted} for the reader of this test'
     try:
         ran = subprocess.run([program, 'sim'], input=given.text, capture_output=True, timeout=60)
     except subprocess.TimeoutExpired:
         return 'no end within 60 seconds'
-    status, errors = REFUSALS.get(wanted, (0, b''))
+    status, errors = refusal(wanted)
     if ran.returncode != status:
         return f'status {ran.returncode} in place of {status}, as it is {wanted}'
     if ran.stderr != errors:
