@@ -1,7 +1,6 @@
 //! UDP datagrams on IPv4 as bytes (RFC 768).
 #![tactic(auto)]
 
-mod checksum;
 mod datagram;
 mod laws;
 mod reading;
@@ -12,3 +11,6 @@ pub use laws::what_is_written_is_read;
 pub use reading::decode;
 pub use spec_wire::udp::Bad;
 pub use writing::encode_into;
+
+// The protocol of an IPv4 datagram that carries a user datagram.
+const PROTOCOL: u8 = 17;

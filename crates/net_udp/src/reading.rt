@@ -3,9 +3,9 @@ ghost use Rattle.spec_wire.specs.Octets.{u16_at};
 ghost use Rattle.spec_wire.specs.Udp.{UserDatagram, Reads, fields_of, refusal, is_wrong_length, is_wrong_sum, length_of, datagram_of, sum_of};
 ghost use Rattle.net_udp.specs.Shown.{shown};
 
-use crate::checksum::datagram_sum;
-use crate::{Bad, Udp};
+use crate::{Bad, PROTOCOL, Udp};
 use byteorder::{BigEndian, ByteOrder};
+use net_ip4::pseudo::sum_behind;
 
 // The header, in bytes.
 const HEADER: usize = 8;
@@ -37,7 +37,13 @@ fn sum(src: u32, dst: u32, bytes: &[u8]) -> u16
     requires whole { length_of bytes.now ≤ length bytes.now }
     ensures { result ≡ sum_of src dst (datagram_of bytes.now) }
 {
-    datagram_sum(src, dst, &bytes[..HEADER], &bytes[HEADER..length(bytes)])
+    sum_behind(
+        PROTOCOL,
+        src,
+        dst,
+        &bytes[..HEADER],
+        &bytes[HEADER..length(bytes)],
+    )
 }
 
 fn is_wrong_sum(src: u32, dst: u32, bytes: &[u8]) -> bool

@@ -2,10 +2,10 @@ ghost use Rattle.std.specs.Prelude.{◌≡◌, ◌≤◌, ◌++◌, OnOk, OnErr,
 ghost use Rattle.spec_wire.specs.Udp.{computed_checksum, header, sent_checksum, written};
 ghost use Rattle.net_udp.specs.Shown.{shown};
 
-use crate::Udp;
-use crate::checksum::datagram_sum;
+use crate::{PROTOCOL, Udp};
 use byteorder::{BigEndian, ByteOrder};
 use it_types::NoMemory;
+use net_ip4::pseudo::sum_behind;
 use std::alloc::Global;
 
 // The header with a checksum of 0.
@@ -32,7 +32,7 @@ fn header(src: u32, dst: u32, u: &Udp<'_>) -> [u8; 8]
     ensures { result ≡ header (shown u.now) (sent_checksum (computed_checksum src dst (shown u.now))) }
 {
     let mut header = unsummed_header(u);
-    let computed = !datagram_sum(src, dst, &header, u.load);
+    let computed = !sum_behind(PROTOCOL, src, dst, &header, u.load);
     BigEndian::write_u16(&mut header[6..], sent_checksum(computed));
     header
 }

@@ -5,3 +5,7 @@ pub mod Ipv4Examples
 pub mod UdpTests
 pub mod UdpLaws
 pub mod UdpExamples
+pub mod SegmentTests
+pub mod SegmentLaws
+pub mod SegmentExamples
+pub mod Positions

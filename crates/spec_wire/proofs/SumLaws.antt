@@ -33,6 +33,13 @@ folded_bound n = omega (arith, folded_lem n)
 pub folded_complemented : (n : ℕ) → 0 < n → folded (n + ones_complement (folded n)) ≡ 65535
 folded_complemented n h = omega (arith, folded_lem n, folded_lem (n + (65535 - folded n)))
 
+-- the end around sum of two words is their sum, folded
+pub end_around-two : (a b : ℕ) → a ≤ 65535 → b ≤ 65535 → folded (a + b) ≡ end_around a b
+end_around-two a b ha hb = omega (arith, folded_lem (a + b))
+
+pub end_around-assoc : (a b c : ℕ) → a ≤ 65535 → b ≤ 65535 → c ≤ 65535 → end_around (end_around a b) c ≡ end_around a (end_around b c)
+end_around-assoc a b c ha hb hc = omega arith
+
 -- the one's complement sum is the whole sum, folded
 pub ones_sum-folded : (ws : List ℕ) → AreWords ws → ones_sum ws ≡ folded (sum ws)
 unfolding ones_sum folded
@@ -64,6 +71,10 @@ words_fit (high ∷ low ∷ bytes) octets = (omega (arith, octets 0, octets 1), 
 pub ones_sum-words : (bytes : List ℕ) → AreOctets bytes → ones_sum (words bytes) ≡ folded (sum (words bytes))
 ones_sum-words bytes octets = ones_sum-folded (words bytes) (words_fit bytes octets)
 
+-- and that is a word
+pub ones_sum-bound : (bytes : List ℕ) → AreOctets bytes → ones_sum (words bytes) ≤ 65535
+ones_sum-bound bytes octets = omega (arith, ones_sum-folded (words bytes) (words_fit bytes octets), folded_bound (sum (words bytes)))
+
 pub words-append_fit : (xs ys : List ℕ) → AreWords xs → AreWords ys → AreWords (xs ++ ys)
 words-append_fit [] ys hx hy = hy
 words-append_fit (x ∷ xs) ys hx hy = (hx.0, words-append_fit xs ys hx.1 hy)
@@ -91,6 +102,10 @@ words-append n (x ∷ []) ys even = absurd (omega arith)
 words-append zero (x ∷ y ∷ xs) ys even = absurd (omega arith)
 words-append (suc n) (x ∷ y ∷ xs) ys even = ap (λ ws. (x * 256 + y) ∷ ws) (words-append n xs ys (omega arith))
 
+-- the sum over bytes in two parts, of which the first has an even number of octets
+pub ones_sum-split : (n : ℕ) (xs ys : List ℕ) → AreOctets xs → AreOctets ys → length xs ≡ n + n → ones_sum (words (xs ++ ys)) ≡ end_around (ones_sum (words xs)) (ones_sum (words ys))
+ones_sum-split n xs ys hx hy even = ap ones_sum (words-append n xs ys even) ∙ ones_sum-append (words xs) (words ys) (words_fit xs hx) (words_fit ys hy)
+
 -- the sum of words, with one more between them
 ones_sum-between : (front back : List ℕ) (w : ℕ)
     → AreWords front
@@ -111,28 +126,3 @@ ones_sum-either_zero front back hf hb some =
     let n : ℕ = sum front + sum back in
     let same : folded (n + 65535) ≡ folded (n + 0) = omega (arith, folded_lem (n + 65535), folded_lem (n + 0)) in
     ones_sum-between front back 65535 hf hb (lit≤ tt) ∙ same ∙ sym (ones_sum-between front back 0 hf hb (omega arith))
-
--- the sum of octets as words, in a wide register
-pub words_bound : (bytes : List ℕ) → AreOctets bytes → 2 * sum (words bytes) ≤ 65535 * (length bytes + 1)
-words_bound [] octets = omega arith
-words_bound (high ∷ []) octets = omega (arith, octets 0, sum_by-cons (λ x. x) (high * 256) [])
-words_bound (high ∷ low ∷ bytes) octets =
-    omega (arith, octets 0, octets 1, sum_by-cons (λ x. x) (high * 256 + low) (words bytes), words_bound bytes (λ i. octets (suc (suc i))))
-
--- the sum over three parts, of which the first two have an even number of octets, by their sums in a wide register
-pub ones_sum-parts : (n m : ℕ) (front mid back : List ℕ)
-    → AreOctets front
-    → AreOctets mid
-    → AreOctets back
-    → length front ≡ n + n
-    → length mid ≡ m + m
-    → ones_sum (words (front ++ (mid ++ back))) ≡ folded (sum (words front) + sum (words mid) + sum (words back))
-ones_sum-parts n m front mid back hf hm hb even_front even_mid =
-    let parted : words (front ++ (mid ++ back)) ≡ words front ++ (words mid ++ words back) =
-    words-append n front (mid ++ back) even_front ∙ ap (λ ws. words front ++ ws) (words-append m mid back even_mid) in
-    let after : AreWords (words mid ++ words back) = words-append_fit (words mid) (words back) (words_fit mid hm) (words_fit back hb) in
-    let whole : AreWords (words front ++ (words mid ++ words back)) =
-    words-append_fit (words front) (words mid ++ words back) (words_fit front hf) after in
-    ap ones_sum parted
-    ∙ ones_sum-folded (words front ++ (words mid ++ words back)) whole
-    ∙ ap folded (omega (arith, sum_by-append (λ x. x) (words front) (words mid ++ words back), sum_by-append (λ x. x) (words mid) (words back)))

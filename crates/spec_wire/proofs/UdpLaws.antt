@@ -2,13 +2,14 @@
 use Rattle.std.proofs.Common.{◌≡◌, ℕ, Bool, if◌then◌else◌, zero, suc, ◌+◌, ◌-◌, ◌<◌, ◌≤◌, List, ◌∷◌, ◌++◌, length, take, sum, inr, refl, sym, ap, ◌∙◌, arith, lit≤, length-append}
 use Rattle.std.proofs.Math.Dec.{eqb-suc-zero}
 use Rattle.std.proofs.Math.Seq.{take-append_seam}
+use Rattle.spec_wire.specs.Pseudo.{pseudo_header}
 use Rattle.spec_wire.specs.Sum.{words, ones_sum, ones_complement}
-use Rattle.spec_wire.specs.Udp.{UserDatagram, Reads, IsWritable, header, pseudo_header, sum_of, length_of, datagram_of, written, computed_checksum, sent_checksum}
+use Rattle.spec_wire.specs.Udp.{UserDatagram, Reads, IsWritable, header, sum_of, length_of, datagram_of, written, computed_checksum, sent_checksum}
 use Rattle.spec_wire.proofs.SumLaws.{AreWords, words_fit, ones_sum-checksum, ones_sum-either_zero, u16_again}
 
 -- the words of the pseudo header, and of the header before its checksum
 abbrev words_before : ℕ → ℕ → UserDatagram → List ℕ
-words_before src dst u = take 9 (words (pseudo_header src dst (length (header u 0 ++ u.load)) ++ header u 0))
+words_before src dst u = take 9 (words (pseudo_header 17 src dst (length (header u 0 ++ u.load)) ++ header u 0))
 
 sent_plainly : (n : ℕ) → sent_checksum (suc n) ≡ suc n
 sent_plainly n = ap (λ (b : Bool). if b then 65535 else suc n) (eqb-suc-zero n)

@@ -4,8 +4,9 @@ use Rattle.std.specs.Prelude.{◌≡◌, ℕ, Bool, not, ◌&&◌, ◌||◌, ◌
 use Rattle.spec_lists.specs.Refusal.{first_refusal}
 use Rattle.spec_wire.specs.declared.udp.Bad.{Bad}
 use Rattle.spec_wire.specs.declared.udp.Bad.TheVariants.{Short, Length, Checksum}
-use Rattle.spec_wire.specs.Octets.{AreOctets, u16_at, u16_octets, u32_octets}
-use Rattle.spec_wire.specs.Sum.{words, ones_sum, ones_complement}
+use Rattle.spec_wire.specs.Octets.{AreOctets, u16_at, u16_octets}
+use Rattle.spec_wire.specs.Pseudo.{sum_behind}
+use Rattle.spec_wire.specs.Sum.{ones_complement}
 
 -- a user datagram without its spelling: two ports, and data
 pub record UserDatagram : Type 0 where
@@ -24,15 +25,9 @@ checksum_field_of bytes = u16_at bytes 6
 abbrev pub datagram_of : List ℕ → List ℕ
 datagram_of bytes = take (length_of bytes) bytes
 
--- the pseudo header that stands before the datagram in the sum alone: source address, destination address, a zero octet,
--- the protocol, which is 17, and the length of the datagram
-abbrev pub pseudo_header : ℕ → ℕ → ℕ → List ℕ
-pseudo_header src dst size = u32_octets src ++ u32_octets dst ++ (0 ∷ 17 ∷ []) ++ u16_octets size
-
--- "the one's complement sum of a pseudo header of information from the IP header, the UDP header, and the data, padded
--- with zero octets at the end (if necessary) to make a multiple of two octets"
+-- the sum behind the pseudo header; 17 is the protocol UDP
 abbrev pub sum_of : ℕ → ℕ → List ℕ → ℕ
-sum_of src dst datagram = ones_sum (words (pseudo_header src dst (length datagram) ++ datagram))
+sum_of src dst datagram = sum_behind 17 src dst datagram
 
 -- what stands in the fields
 abbrev pub fields_of : List ℕ → UserDatagram

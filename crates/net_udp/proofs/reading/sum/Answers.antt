@@ -6,4 +6,4 @@ use Rattle.net_udp.proofs.reading.sum.Goals as goal
 pub returns : goal.returns
 returns c =
     let bytes = c.args.bytes.now in
-    c.datagram_sum.ensures ∙ ap (sum_of c.args.src c.args.dst) (rw c.length.ensures (header_and_data (length_of bytes) bytes c.requires.header))
+    c.sum_behind.ensures ∙ ap (sum_of c.args.src c.args.dst) (rw c.length.ensures (header_and_data (length_of bytes) bytes c.requires.header))
