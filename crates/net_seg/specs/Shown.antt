@@ -1,5 +1,5 @@
 -- Values of the code without where their bytes lie in memory, and the header in room for its greatest size.
-use Rattle.std.specs.Prelude.{ℕ, List, [], ◌∷◌, ◌++◌, Option, Some, None}
+use Rattle.std.specs.Prelude.{ℕ, List, ◌∷◌, ◌++◌, Option, Some, None}
 use Rattle.net_seg.specs.declared.options.NextOption.{NextOption}
 use Rattle.net_seg.specs.declared.options.NextOption.TheVariants as found
 use Rattle.net_seg.specs.declared.options.Options.{Options}
@@ -28,10 +28,21 @@ shown_option (found.Padding rest) = plain.Padding rest.now
 shown_option (found.OfKind kind body rest) = plain.OfKind kind body.now rest.now
 shown_option found.Wrong = plain.Wrong
 
--- the option's octets, or 0 where there is none
+-- the four octets of the option, or 0 where there is none
+abbrev pub kind_octet : Option ℕ → ℕ
+kind_octet None = 0
+kind_octet (Some mss) = 2
+
+abbrev pub length_octet : Option ℕ → ℕ
+length_octet None = 0
+length_octet (Some mss) = 4
+
+abbrev pub size_or_0 : Option ℕ → ℕ
+size_or_0 None = 0
+size_or_0 (Some mss) = mss
+
 abbrev pub option_room : Option ℕ → List ℕ
-option_room None = 0 ∷ 0 ∷ 0 ∷ 0 ∷ []
-option_room (Some mss) = plain.written_options (Some mss)
+option_room mss = kind_octet mss ∷ length_octet mss ∷ u16_octets (size_or_0 mss)
 
 abbrev pub header_room : plain.Segment → ℕ → List ℕ
 header_room s checksum = plain.header_front s ++ (u16_octets checksum ++ (0 ∷ 0 ∷ option_room s.mss))

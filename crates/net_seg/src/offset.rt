@@ -6,5 +6,5 @@ ghost use Rattle.spec_wire.specs.Positions.{offset_of};
 pub fn offset_of(seq: u32, base: u32) -> i32
     ensures { result ≡ offset_of seq base }
 {
-    seq.wrapping_sub(base) as i32
+    seq.wrapping_sub(base).cast_signed()
 }

@@ -21,7 +21,11 @@ enum NextOption<'a> {
     Ends,
     // An option of one octet, which is there for alignment.
     Padding(&'a [u8]),
-    OfKind { kind: u8, body: &'a [u8], rest: &'a [u8] },
+    OfKind {
+        kind: u8,
+        body: &'a [u8],
+        rest: &'a [u8],
+    },
     // The option has no length, or a length below 2 or past the header.
     Wrong,
 }
@@ -61,7 +65,9 @@ fn with_option(options: Options, kind: u8, body: &[u8]) -> Option<Options>
     if body.len() != 2 {
         return None;
     }
-    Some(Options { mss: Some(BigEndian::read_u16(body)) })
+    Some(Options {
+        mss: Some(BigEndian::read_u16(body)),
+    })
 }
 
 /// What the options in these octets tell, of several of a kind the last. None where one can't be read.

@@ -1,6 +1,7 @@
-ghost use Rattle.std.specs.Prelude.{◌≡◌, ◌≤◌, ◌+◌, ◌×◌, ◌↔◌, IfOk, IsOkAnd, OnOk, OnErr, Some, None, length, option_map};
+ghost use Rattle.std.specs.Prelude.{◌≡◌, ◌≤◌, ◌+◌, ◌↔◌, IfOk, IsOkAnd, OnOk, OnErr, Some, None, length, option_map};
 ghost use Rattle.spec_wire.specs.Octets.{u16_at, u32_at};
-ghost use Rattle.spec_wire.specs.Segment.{Segment, Reads, fields_of, header_length, is_wrong_offset, is_wrong_sum, options_of, refusal};
+ghost use Rattle.spec_wire.specs.Segment as wire;
+ghost use Rattle.spec_wire.specs.Segment.{Reads, fields_of, flags_of, header_length, is_wrong_offset, is_wrong_sum, options_of, refusal};
 ghost use Rattle.net_seg.specs.Shown.{shown, shown_options};
 
 use crate::options::{Options, read_options};
@@ -73,6 +74,13 @@ fn options_unless_refused(src: u32, dst: u32, bytes: &[u8]) -> Result<Options, B
     options(bytes).ok_or(Bad::Option)
 }
 
+fn flags(bytes: &[u8]) -> TcpFlags
+    requires { 20 ≤ length bytes.now }
+    ensures { result.0 ≡ flags_of bytes.now }
+{
+    TcpFlags::from_bits_truncate(bytes[13])
+}
+
 fn segment(bytes: &[u8], options: Options) -> Segment<'_>
     requires header { 20 ≤ header_length bytes.now }
     requires whole { header_length bytes.now ≤ length bytes.now }
@@ -83,7 +91,7 @@ fn segment(bytes: &[u8], options: Options) -> Segment<'_>
         to_port: u16_at(bytes, 2),
         seq: u32_at(bytes, 4),
         ack: u32_at(bytes, 8),
-        flags: TcpFlags::from_bits_truncate(bytes[13]),
+        flags: flags(bytes),
         wnd: u16_at(bytes, 14),
         mss: options.mss,
         load: &bytes[header_length(bytes)..],
@@ -96,10 +104,12 @@ pub fn decode(src: u32, dst: u32, bytes: &[u8]) -> Result<Segment<'_>, Bad>
     // What is answered is what the bytes are read as.
     ensures read { IfOk result (λ s. Reads src dst bytes.now (shown s)) }
     // What the bytes are read as is answered.
-    ensures only { (v : Segment) → Reads src dst bytes.now v → IsOkAnd result (λ s. shown s ≡ v) }
+    ensures only { (v : wire.Segment) → Reads src dst bytes.now v → IsOkAnd result (λ s. shown s ≡ v) }
     // Each refusal comes exactly where its test is the first that holds.
     ensures refused { (why : Bad) → (result ≡ Err why) ↔ (refusal src dst bytes.now ≡ Some why) }
 {
-    let options = options_unless_refused(src, dst, bytes)?;
-    Ok(segment(bytes, options))
+    match options_unless_refused(src, dst, bytes) {
+        Ok(options) => Ok(segment(bytes, options)),
+        Err(why) => Err(why),
+    }
 }

@@ -17,9 +17,9 @@ fn header_size(mss: Option<u16>) -> usize
     if mss.is_some() { 24 } else { 20 }
 }
 
-// The header with a checksum of 0, in room for its greatest size.
-fn unsummed_header(s: &Segment<'_>) -> [u8; 24]
-    ensures { result ≡ header_room (shown s.now) 0 }
+// The header with a checksum, in room for its greatest size.
+fn header(s: &Segment<'_>, checksum: u16) -> [u8; 24]
+    ensures { result ≡ header_room (shown s.now) checksum }
 {
     let mut header = [0; 24];
     BigEndian::write_u16(&mut header, s.from_port);
@@ -29,6 +29,7 @@ fn unsummed_header(s: &Segment<'_>) -> [u8; 24]
     header[12] = header_size(s.mss) as u8 * 4;
     header[13] = s.flags.bits();
     BigEndian::write_u16(&mut header[14..], s.wnd);
+    BigEndian::write_u16(&mut header[16..], checksum);
     if let Some(mss) = s.mss {
         header[20] = 2;
         header[21] = 4;
@@ -37,13 +38,11 @@ fn unsummed_header(s: &Segment<'_>) -> [u8; 24]
     header
 }
 
-fn header(src: u32, dst: u32, s: &Segment<'_>) -> [u8; 24]
-    ensures { result ≡ header_room (shown s.now) (checksum_of src dst (shown s.now)) }
+fn checksum(src: u32, dst: u32, s: &Segment<'_>) -> u16
+    ensures { result ≡ checksum_of src dst (shown s.now) }
 {
-    let mut header = unsummed_header(s);
-    let checksum = !sum_behind(PROTOCOL, src, dst, &header[..header_size(s.mss)], s.load);
-    BigEndian::write_u16(&mut header[16..], checksum);
-    header
+    let header = header(s, 0);
+    !sum_behind(PROTOCOL, src, dst, &header[..header_size(s.mss)], s.load)
 }
 
 /// Appends the segment with its checksum, sent from one address to the other. With at most 1,460 bytes of data, or 1,456 where
@@ -59,7 +58,7 @@ pub fn encode_into(
     ensures ok { OnOk result (out.new.items ≡ out.old.items ++ written src dst (shown s.now)) }
     ensures err { OnErr result (out.new.items ≡ out.old.items) }
 {
-    let header = header(src, dst, s);
+    let header = header(s, checksum(src, dst, s));
     let header = &header[..header_size(s.mss)];
     out.reserve(header.len() + s.load.len())?;
     out.extend_from_slice(header)?;

@@ -1,5 +1,5 @@
 -- Bytes are read as one segment, and refused exactly where they are read as none.
-use Rattle.std.proofs.Common.{◌≡◌, ◌∙◌, ℕ, false, List, Option, Some, None, is_none, refl, sym, ap}
+use Rattle.std.proofs.Common.{◌≡◌, ◌∙◌, ℕ, false, List, Option, Some, None, refl, sym, ap}
 use Rattle.std.proofs.lemmas.Bool.{eqb-true, eq-eqb, le-ltb, ltb-false, not-false, or_parts}
 use Rattle.spec_lists.proofs.Refusing.{none_holds}
 use Rattle.spec_wire.specs.Segment.{Segment, Options, Reads, fields_of, options_of, refusal, refusals, is_short, is_wrong_option}
@@ -28,33 +28,26 @@ reads_unrefused src dst bytes s h =
     let options : is_wrong_option bytes ≡ false = rw h.options refl in
     rw (short, header, whole, checksum, options) refl
 
-told : (found : Option Options) → is_none found ≡ false → (options : Options) × (found ≡ Some options)
-told None h = absurd cc
-told (Some options) h = (options, refl)
-
--- bytes that are not refused are read, and their options tell something
-pub reads_otherwise : (src dst : ℕ) (bytes : List ℕ)
+-- bytes that are not refused are read, with what their options tell
+pub reads_fields : (src dst : ℕ) (bytes : List ℕ) (options : Options)
     → refusal src dst bytes ≡ None
-    → (options : Options) × (options_of bytes ≡ Some options) × Reads src dst bytes (fields_of bytes options)
+    → options_of bytes ≡ Some options
+    → Reads src dst bytes (fields_of bytes options)
 unfolding refusal
-reads_otherwise src dst bytes h =
+reads_fields src dst bytes options h told =
     let passed = none_holds (refusals src dst bytes) h in
     let offsets = or_parts _ _ passed.1.0 in
-    let options = told (options_of bytes) passed.1.1.1.0 in (
-      options.0,
-      options.1,
-      record {
-        size = ltb-false _ _ passed.0;
-        header = ltb-false _ _ offsets.0;
-        whole = ltb-false _ _ offsets.1;
-        checksum = eqb-true _ _ (not-false _ passed.1.1.0);
-        from_port = refl;
-        to_port = refl;
-        seq = refl;
-        ack = refl;
-        flags = refl;
-        wnd = refl;
-        options = options.1;
-        load = refl;
-      },
-    )
+    record {
+      size = ltb-false _ _ passed.0;
+      header = ltb-false _ _ offsets.0;
+      whole = ltb-false _ _ offsets.1;
+      checksum = eqb-true _ _ (not-false _ passed.1.1.0);
+      from_port = refl;
+      to_port = refl;
+      seq = refl;
+      ack = refl;
+      flags = refl;
+      wnd = refl;
+      options = told;
+      load = refl;
+    }

@@ -3,8 +3,8 @@ use Rattle.spec_wire.specs.Segment.{read_options, no_options}
 use Rattle.net_seg.specs.Shown.{shown_options}
 use Rattle.net_seg.proofs.options.read_options.Given as goal
 
-abbrev pub invariant-loop : goal.invariant-loop
-invariant-loop l = record { so_far : read_options (length l.left) l.left (shown_options l.options) ≡ read_options (length l.octets) l.octets no_options }
+abbrev pub invariant-loop-rest : goal.invariant-loop-rest
+invariant-loop-rest l = record { so_far : read_options (length l.left) l.left (shown_options l.options) ≡ read_options (length l.octets) l.octets no_options }
 
-abbrev pub decreases-loop : goal.decreases-loop
-decreases-loop l = length l.left
+abbrev pub decreases-loop-rest : goal.decreases-loop-rest
+decreases-loop-rest l = length l.left
