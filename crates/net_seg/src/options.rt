@@ -65,9 +65,8 @@ fn with_option(options: Options, kind: u8, body: &[u8]) -> Option<Options>
     if body.len() != 2 {
         return None;
     }
-    Some(Options {
-        mss: Some(BigEndian::read_u16(body)),
-    })
+    let mss = Some(BigEndian::read_u16(body));
+    Some(Options { mss })
 }
 
 /// What the options in these octets tell, of several of a kind the last. None where one can't be read.

@@ -175,5 +175,7 @@ fn sums_words(rt: HostRuntime) {
     assert_eq!(rt; checksum::ones_sum(bytes), 0xddf2);
     assert_eq!(rt; checksum::fold(0x2ddf0), 0xddf2);
     assert_eq!(rt; checksum::word_sum(b"\x00\x01\xf2"), 0xf201);
+    // 32,769 words of 0101
+    assert_eq!(rt; checksum::ones_sum(&[1; 65538]), 0x8181);
     assert_eq!(rt; checksum::fold(0xffffffff), 0xffff);
 }

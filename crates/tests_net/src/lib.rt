@@ -1,4 +1,4 @@
-//! Tests of the datagrams, of the UDP end points, and of the calls that wait. They are a crate of their own, since a crate with tests is
+//! Tests of the datagrams and segments, of the UDP end points, and of the calls that wait. They are a crate of their own, since a crate with tests is
 //! proved a second time with them.
 #![tactic(auto)]
 
@@ -8,5 +8,7 @@ mod end_points;
 mod ip4;
 #[cfg(test)]
 mod pending;
+#[cfg(test)]
+mod segments;
 #[cfg(test)]
 mod user_datagrams;
