@@ -5,6 +5,7 @@ use std::marker::Model;
 
 // The retransmission time at first, and at most, in ticks.
 const FIRST: u64 = 1000;
+
 const GREATEST: u64 = 60_000;
 
 // The expiry at which a connection breaks.
@@ -37,7 +38,11 @@ impl Rto {
     pub fn new() -> Rto
         ensures { result ≡ new_timer }
     {
-        Rto { time: FIRST, count: 0, expires: None }
+        Rto {
+            time: FIRST,
+            count: 0,
+            expires: None,
+        }
     }
 
     /// Something was sent that asks for an acknowledgement, at the tick `now`: a timer that stands is started, and one that runs

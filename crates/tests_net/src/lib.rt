@@ -1,4 +1,5 @@
-//! Tests of the datagrams and segments, of the UDP end points, and of the calls that wait. They are a crate of their own, since a crate with tests is
+//! Tests of the datagrams and segments, of the retransmission timer, of the UDP end points, and of the calls that wait. They
+//! are a crate of their own, since a crate with tests is
 //! proved a second time with them.
 #![tactic(auto)]
 
@@ -8,6 +9,8 @@ mod end_points;
 mod ip4;
 #[cfg(test)]
 mod pending;
+#[cfg(test)]
+mod retransmission;
 #[cfg(test)]
 mod segments;
 #[cfg(test)]

@@ -29,11 +29,7 @@ fn with_mss(mss: Option<u16>) -> Segment<'static> {
 #[test]
 fn decodes_by_the_first_test(rt: HostRuntime) {
     let segments: [(&str, &[u8], Result<Segment<'static>, Bad>); 11] = [
-        (
-            "nothing",
-            b"",
-            Err(Bad::Short),
-        ),
+        ("nothing", b"", Err(Bad::Short)),
         (
             "19 bytes",
             b"\xc0\x00\x00\x07\x00\x01\x00\x00\x00\x00\x00\x00\x50\x02\x04\x00\xd7\xd7\x00",
@@ -88,7 +84,8 @@ fn decodes_by_the_first_test(rt: HostRuntime) {
     for (name, bytes, wanted) in segments {
         assert_eq!(rt; decode(FROM, TO, bytes), wanted, "{name}");
     }
-    let syn = b"\xc0\x00\x00\x07\x00\x01\x00\x00\x00\x00\x00\x00\x60\x02\x04\x00\xc0\x1b\x00\x00\x02\x04\x05\xb4";
+    let syn =
+        b"\xc0\x00\x00\x07\x00\x01\x00\x00\x00\x00\x00\x00\x60\x02\x04\x00\xc0\x1b\x00\x00\x02\x04\x05\xb4";
     assert_eq!(rt; decode(FROM, OTHER, syn), Err(Bad::Checksum));
 }
 
@@ -179,7 +176,8 @@ fn reads_options_up_to_each_edge(rt: HostRuntime) {
 // All flags, the reserved bits and an urgent pointer are set.
 #[test]
 fn ignores_urgent_data_and_reserved_bits(rt: HostRuntime) {
-    let bytes = b"\xc0\x00\x00\x07\x00\x01\x00\x00\x00\x00\x00\x00\x5f\xff\x00\x01\x51\x3a\x12\x34\x68\x69";
+    let bytes =
+        b"\xc0\x00\x00\x07\x00\x01\x00\x00\x00\x00\x00\x00\x5f\xff\x00\x01\x51\x3a\x12\x34\x68\x69";
     let wanted = Segment {
         from_port: 49152,
         to_port: 7,
@@ -218,15 +216,35 @@ fn writes_the_one_spelling(rt: HostRuntime) -> Result<(), Fail> {
         load: b"",
     };
     let segments: [(&str, Segment<'static>, &[u8]); 4] = [
-        ("SYN", with_mss(Some(1460)), b"\xc0\x00\x00\x07\x00\x01\x00\x00\x00\x00\x00\x00\x60\x02\x04\x00\xc0\x1b\x00\x00\x02\x04\x05\xb4"),
-        ("ACK", ack, b"\xc0\x00\x00\x07\x00\x01\x00\x01\x00\x01\x00\x01\x50\x10\x04\x00\xd7\xc6\x00\x00"),
-        ("data of an odd length", hello, b"\xc0\x00\x00\x07\x00\x01\x00\x01\x00\x01\x00\x01\x50\x18\x04\x00\x93\xe7\x00\x00\x68\x65\x6c\x6c\x6f"),
-        ("the greatest numbers", greatest, b"\xff\xff\xff\xff\xff\xff\xff\xff\xff\xff\xff\xff\x60\x1f\xff\xff\x89\xbb\x00\x00\x02\x04\xff\xff"),
+        (
+            "SYN",
+            with_mss(Some(1460)),
+            b"\xc0\x00\x00\x07\x00\x01\x00\x00\x00\x00\x00\x00\x60\x02\x04\x00\xc0\x1b\x00\x00\x02\x04\x05\xb4",
+        ),
+        (
+            "ACK",
+            ack,
+            b"\xc0\x00\x00\x07\x00\x01\x00\x01\x00\x01\x00\x01\x50\x10\x04\x00\xd7\xc6\x00\x00",
+        ),
+        (
+            "data of an odd length",
+            hello,
+            b"\xc0\x00\x00\x07\x00\x01\x00\x01\x00\x01\x00\x01\x50\x18\x04\x00\x93\xe7\x00\x00\x68\x65\x6c\x6c\x6f",
+        ),
+        (
+            "the greatest numbers",
+            greatest,
+            b"\xff\xff\xff\xff\xff\xff\xff\xff\xff\xff\xff\xff\x60\x1f\xff\xff\x89\xbb\x00\x00\x02\x04\xff\xff",
+        ),
     ];
     for (name, segment, wanted) in segments {
         let mut bytes = Vec::from_slice(rt.alloc(), b"before")?;
-        assert_eq!(rt; encode_into(rt.alloc(), FROM, TO, &segment, &mut bytes), Ok(()), "{name}");
-        assert_eq!(rt; &bytes[..6], b"before".as_slice(), "{name}");
+        assert_eq!(rt;
+            encode_into(rt.alloc(), FROM, TO, &segment, &mut bytes),
+            Ok(()),
+            "{name}"
+        );
+        assert_eq!(rt; &bytes[..6], b"before", "{name}");
         assert_eq!(rt; &bytes[6..], wanted, "{name}");
         assert_eq!(rt; decode(FROM, TO, &bytes[6..]), Ok(segment), "{name}");
     }
