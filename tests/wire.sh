@@ -40,5 +40,26 @@ for text in examples/*.txt; do
         failed=1
     fi
 done
+# The packets of a handshake, written by a program: addresses, checksums, ports, numbers, flags, window, MSS and data.
+cat >"$work/wanted" <<'END'
+10.0.0.1,10.0.0.2,1,49152,7,65536,0,0x2,1024,1,1460,
+10.0.0.2,10.0.0.1,1,7,49152,65536,65537,0x12,1024,1,1460,
+10.0.0.1,10.0.0.2,1,49152,7,65537,65537,0x10,1024,1,,
+10.0.0.1,10.0.0.2,1,49152,7,65537,65537,0x18,1024,1,,68656c6c6f
+10.0.0.2,10.0.0.1,1,7,49152,65537,65542,0x11,1019,1,,
+END
+sed 's/../ &/g; s/^/0000/' crates/example_handshake/stdout >"$work/dump"
+text2pcap -q -l 101 "$work/dump" "$work/packets" >/dev/null 2>"$work/errors" || cat "$work/errors"
+tshark -r "$work/packets" -o ip.check_checksum:TRUE -o tcp.check_checksum:TRUE -o tcp.relative_sequence_numbers:FALSE \
+    -T fields -E separator=, -e ip.src -e ip.dst -e ip.checksum.status -e tcp.srcport -e tcp.dstport -e tcp.seq -e tcp.ack \
+    -e tcp.flags -e tcp.window_size_value -e tcp.checksum.status -e tcp.options.mss_val -e tcp.payload \
+    2>/dev/null | sed 's/,0x0*/,0x/' >"$work/read"
+if diff "$work/wanted" "$work/read" >"$work/differs"; then
+    packets=$((packets + $(wc -l <"$work/read")))
+else
+    echo "FAILED the packets of the handshake:"
+    head -5 "$work/differs"
+    failed=1
+fi
 echo "wire: tshark read $packets packets"
 [ "$packets" -gt 0 ] && exit "$failed"
