@@ -1,0 +1,11 @@
+pub mod States
+pub mod Sides
+pub mod Sender
+pub mod Receiver
+pub mod Parts
+pub mod Steps
+pub mod Arriving
+pub mod Acting
+pub mod Reached
+pub mod Segments
+pub mod Breaking
