@@ -7,7 +7,7 @@ use Rattle.spec_wire.specs.Segment.{Segment}
 use Rattle.spec_tcp.specs.Connection.{Connection, Sending, window}
 use Rattle.spec_tcp.specs.Arrival.{arrive}
 use Rattle.spec_tcp.specs.Emission.{Outgoing, load_of, emitted, after_emission}
-use Rattle.spec_tcp.specs.Acts.{Moment, done}
+use Rattle.spec_tcp.specs.Acts.{Moment, done, after}
 
 -- ---- what goes out
 
@@ -73,6 +73,18 @@ abbrev pub shown : Played → Told
 shown p =
     let c = p.last in
     told c.state (c.snd.una - c.snd.iss) (c.snd.nxt - c.snd.iss) c.snd.wnd c.rcv.unread (c.rcv.nxt - c.rcv.irs) (window c.rcv) c.timer.expires c.rcv.ended p.sent
+
+-- the state after each moment, with what went out
+abbrev pub passes : List Moment → Connection → List (State × List Sent)
+passes [] c = []
+passes (m ∷ ms) c =
+    let d = done m.act c m.now in
+    ((after_emission d m.now).state, map (gone_out d.snd) (emitted d)) ∷ passes ms (after_emission d m.now)
+
+-- the tick at which the timer expires, after each moment
+abbrev pub expiries : List Moment → Connection → List (Option ℕ)
+expiries [] c = []
+expiries (m ∷ ms) c = (after m c).timer.expires ∷ expiries ms (after m c)
 
 -- ---- words of the histories
 
