@@ -1,6 +1,5 @@
-//! Tests of the datagrams and segments, of the retransmission timer, of the UDP end points, and of the calls that wait. They
-//! are a crate of their own, since a crate with tests is
-//! proved a second time with them.
+//! Tests of the datagrams and segments, of the retransmission timer, of the UDP end points, and of the calls that wait. They are a crate
+//! of their own, since a crate with tests is proved a second time with them.
 #![tactic(auto)]
 
 #[cfg(test)]

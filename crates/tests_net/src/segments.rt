@@ -244,7 +244,7 @@ fn writes_the_one_spelling(rt: HostRuntime) -> Result<(), Fail> {
             Ok(()),
             "{name}"
         );
-        assert_eq!(rt; &bytes[..6], b"before", "{name}");
+        assert_eq!(rt; &bytes[..6], b"before".as_slice(), "{name}");
         assert_eq!(rt; &bytes[6..], wanted, "{name}");
         assert_eq!(rt; decode(FROM, TO, &bytes[6..]), Ok(segment), "{name}");
     }
