@@ -9,3 +9,7 @@ mod MssHistories
 mod StateHistories
 mod ResetHistories
 mod AbortHistories
+mod ExpiryHistories
+mod WindowHistories
+mod TurnHistories
+mod DataHistories

@@ -5,7 +5,6 @@ use Rattle.it_types.specs.declared.id.EndPt.{EndPt}
 use Rattle.spec_tcp.specs.declared.state.State.{State}
 use Rattle.spec_wire.specs.Segment.{Segment}
 use Rattle.spec_tcp.specs.Connection.{Connection, Sending, window}
-use Rattle.spec_tcp.specs.Arrival.{arrive}
 use Rattle.spec_tcp.specs.Emission.{Outgoing, load_of, emitted, after_emission}
 use Rattle.spec_tcp.specs.Acts.{Moment, done, after}
 

@@ -1,10 +1,9 @@
 -- The segments of the histories by name, and a connection in each of its states. This side's ISS is 1,000 and the peer's 5,000,
 -- so that the first bytes stand at 1,001 and 5,001. Both windows are 1,024 bytes long.
-use Rattle.std.proofs.Common.{ℕ, List, [], ◌∷◌, Some, None}
-use Rattle.spec_wire.specs.Segment.{Segment}
+use Rattle.std.proofs.Common.{ℕ, List, [], Some, None}
 use Rattle.spec_tcp.specs.Connection.{Connection}
 use Rattle.spec_tcp.specs.Opening.{open_active, open_passive}
-use Rattle.spec_tcp.specs.Acts.{Act, Opens, Arrives, Shuts, at, after, after_all}
+use Rattle.spec_tcp.specs.Acts.{Act, Opens, Arrives, Shuts, at, after}
 use Rattle.spec_tcp.proofs.Play.{Sent, goes, seg, mine, peer}
 
 -- ---- the peer's segments: sequence number, acknowledgement, and window or data
