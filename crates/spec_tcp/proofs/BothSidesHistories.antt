@@ -61,7 +61,8 @@ abbrev opened_there : Connection
 opened_there = after_all (at 0 Opens ∷ at 0 (arriving handshake_ack) ∷ []) other_side
 
 -- The sender gets two acknowledgements: the first one tells nothing new, and the second one that all has come.
-pub sender_of_an_early_fin : shown (play (at 0 (Commits hello) ∷ at 0 Shuts ∷ at 0 (arriving ack_of_nothing) ∷ at 0 (arriving ack_of_all) ∷ []) opened_here)
+pub sender_of_an_early_fin : shown (play (at 0 (Commits hello) ∷ at 0 Shuts ∷ at 0 (arriving ack_of_nothing) ∷ at 0 (arriving ack_of_all)
+    ∷ []) opened_here)
     ≡ told FinWait2 7 7 1019 [] 1 1024 None false ((hello_data ∷ []) ∷ (fin_past_hello ∷ []) ∷ [] ∷ [] ∷ [])
 unfolding arrive emitted after_emission
 sender_of_an_early_fin = refl

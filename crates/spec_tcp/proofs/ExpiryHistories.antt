@@ -20,7 +20,8 @@ hello_data = last_data 1001 5001 1024 hello
 
 -- eight expiries of a timer that was started at 0
 abbrev eight_expiries : List Moment
-eight_expiries = at 1000 Ticks ∷ at 3000 Ticks ∷ at 7000 Ticks ∷ at 15000 Ticks ∷ at 31000 Ticks ∷ at 63000 Ticks ∷ at 123000 Ticks ∷ at 183000 Ticks ∷ []
+eight_expiries = at 1000 Ticks ∷ at 3000 Ticks ∷ at 7000 Ticks ∷ at 15000 Ticks ∷ at 31000 Ticks ∷ at 63000 Ticks ∷ at 123000 Ticks
+    ∷ at 183000 Ticks ∷ []
 
 -- ---- nine expiries
 
@@ -60,19 +61,25 @@ fin_nine_times = refl
 
 -- ---- something is heard in between
 
+-- nine expiries from the ninth on, each 60,000 ticks after the one before
+abbrev nine_more : List Moment
+nine_more = at 243000 Ticks ∷ at 303000 Ticks ∷ at 363000 Ticks ∷ at 423000 Ticks ∷ at 483000 Ticks ∷ at 543000 Ticks ∷ at 603000 Ticks
+    ∷ at 663000 Ticks ∷ at 723000 Ticks ∷ []
+
 -- An acknowledgement that tells nothing new comes before the ninth expiry: nine more follow, each after 60,000 ticks.
-pub heard_before_the_ninth : expiries (at 200000 (gets_ack 5001 1001 1024) ∷ at 243000 Ticks ∷ at 303000 Ticks ∷ at 363000 Ticks ∷ at 423000 Ticks ∷ at 483000 Ticks ∷ at 543000 Ticks ∷ at 603000 Ticks ∷ at 663000 Ticks ∷ at 723000 Ticks ∷ []) (after_all eight_expiries sent_hello)
+pub heard_before_the_ninth : expiries (at 200000 (gets_ack 5001 1001 1024) ∷ nine_more) (after_all eight_expiries sent_hello)
     ≡ Some 243000 ∷ Some 303000 ∷ Some 363000 ∷ Some 423000 ∷ Some 483000 ∷ Some 543000 ∷ Some 603000 ∷ Some 663000 ∷ Some 723000 ∷ None ∷ []
 unfolding arrive emitted after_emission
 heard_before_the_ninth = refl
 
-pub states_after_it : passes (at 200000 (gets_ack 5001 1001 1024) ∷ at 243000 Ticks ∷ at 303000 Ticks ∷ at 363000 Ticks ∷ at 423000 Ticks ∷ at 483000 Ticks ∷ at 543000 Ticks ∷ at 603000 Ticks ∷ at 663000 Ticks ∷ at 723000 Ticks ∷ []) (after_all eight_expiries sent_hello)
+pub states_after_it : passes (at 200000 (gets_ack 5001 1001 1024) ∷ nine_more) (after_all eight_expiries sent_hello)
     ≡ (Established, []) ∷ replicate 8 (Established, hello_data ∷ []) ++ (Broken, []) ∷ []
 unfolding arrive emitted after_emission
 states_after_it = refl
 
 -- A segment before the window, and one without ACK, are not heard.
-pub not_heard_before_the_ninth : passes (at 200000 (gets_ack 4999 1001 1024) ∷ at 200000 (Arrives (seg 5001 0 8 1024 None (1 ∷ []))) ∷ at 243000 Ticks ∷ []) (after_all eight_expiries sent_hello)
+pub not_heard_before_the_ninth : passes (at 200000 (gets_ack 4999 1001 1024) ∷ at 200000 (Arrives (seg 5001 0 8 1024 None (1 ∷ [])))
+    ∷ at 243000 Ticks ∷ []) (after_all eight_expiries sent_hello)
     ≡ (Established, ack 1006 5001 1024 ∷ []) ∷ (Established, []) ∷ (Broken, []) ∷ []
 unfolding arrive emitted after_emission
 not_heard_before_the_ninth = refl
@@ -80,7 +87,8 @@ not_heard_before_the_ninth = refl
 -- ---- more is acknowledged
 
 -- The time is 1,000 ticks again, from the acknowledgement on, for what is left; it stands once nothing is left.
-pub time_anew : expiries (at 0 (Commits hello) ∷ at 1000 Ticks ∷ at 1500 (gets_ack 5001 1003 1024) ∷ at 2500 Ticks ∷ at 2600 (gets_ack 5001 1006 1024) ∷ at 2700 (Commits (1 ∷ [])) ∷ []) in_established
+pub time_anew : expiries (at 0 (Commits hello) ∷ at 1000 Ticks ∷ at 1500 (gets_ack 5001 1003 1024) ∷ at 2500 Ticks
+    ∷ at 2600 (gets_ack 5001 1006 1024) ∷ at 2700 (Commits (1 ∷ [])) ∷ []) in_established
     ≡ Some 1000 ∷ Some 3000 ∷ Some 2500 ∷ Some 4500 ∷ None ∷ Some 3700 ∷ []
 unfolding arrive emitted after_emission
 time_anew = refl

@@ -23,13 +23,15 @@ unfolding arrive emitted after_emission
 opened_by_the_second_syn = refl
 
 -- Acknowledgements of something other than the SYN draw a reset, with SYN or without.
-pub wrong_ack_of_a_syn : passes (at 1 (gets_ack 5000 1002 1024) ∷ at 1 (gets_syn_and_ack 5000 1000) ∷ at 1 (gets_syn_and_ack 5000 77) ∷ []) in_syn_sent
+pub wrong_ack_of_a_syn : passes (at 1 (gets_ack 5000 1002 1024) ∷ at 1 (gets_syn_and_ack 5000 1000) ∷ at 1 (gets_syn_and_ack 5000 77)
+    ∷ []) in_syn_sent
     ≡ (SynSent, reset 1002 ∷ []) ∷ (SynSent, reset 1000 ∷ []) ∷ (SynSent, reset 77 ∷ []) ∷ []
 unfolding arrive emitted after_emission
 wrong_ack_of_a_syn = refl
 
 -- An ACK without SYN, a SYN without ACK, and a segment with neither are dropped.
-pub half_a_syn_and_ack : passes (at 1 (gets_ack 5000 1001 1024) ∷ at 1 (gets_syn 5000) ∷ at 1 (Arrives (seg 5000 0 8 1024 None (1 ∷ []))) ∷ []) in_syn_sent
+pub half_a_syn_and_ack : passes (at 1 (gets_ack 5000 1001 1024) ∷ at 1 (gets_syn 5000) ∷ at 1 (Arrives (seg 5000 0 8 1024 None (1 ∷ [])))
+    ∷ []) in_syn_sent
     ≡ (SynSent, []) ∷ (SynSent, []) ∷ (SynSent, []) ∷ []
 unfolding arrive emitted after_emission
 half_a_syn_and_ack = refl
@@ -66,7 +68,8 @@ unfolding arrive emitted after_emission
 opened_by_data_and_fin = refl
 
 -- Data and FIN of the SYN itself are ignored.
-pub data_and_fin_of_a_syn : shown (play (at 0 Opens ∷ at 1 (gets_ack 5001 1001 700) ∷ []) (open_passive mine peer 1000 (seg 5000 0 3 1024 None (1 ∷ 2 ∷ [])) 1024 1024))
+pub data_and_fin_of_a_syn : shown (play (at 0 Opens ∷ at 1 (gets_ack 5001 1001 700)
+    ∷ []) (open_passive mine peer 1000 (seg 5000 0 3 1024 None (1 ∷ 2 ∷ [])) 1024 1024))
     ≡ told Established 1 1 700 [] 1 1024 None false ((syn_and_ack ∷ []) ∷ [] ∷ [])
 unfolding arrive emitted after_emission
 data_and_fin_of_a_syn = refl

@@ -116,7 +116,8 @@ reset_at_the_end_of_the_window = refl
 
 -- The window is 0: RCV.NXT alone is looked at.
 abbrev with_a_full_window : Connection
-with_a_full_window = after_all (at 0 Opens ∷ at 0 (gets_syn_and_ack 5000 1001) ∷ at 1 (gets_data 5001 1001 (replicate 8 7)) ∷ []) (open_active mine peer 1000 1024 8)
+with_a_full_window = after_all (at 0 Opens ∷ at 0 (gets_syn_and_ack 5000 1001) ∷ at 1 (gets_data 5001 1001 (replicate 8 7))
+    ∷ []) (open_active mine peer 1000 1024 8)
 
 pub reset_at_a_full_window : shown (play (at 2 (gets_reset 5010) ∷ at 2 (gets_reset 5008) ∷ at 2 (gets_reset 5009) ∷ []) with_a_full_window)
     ≡ told Broken 1 1 1024 (replicate 8 7) 9 0 None false ([] ∷ [] ∷ [] ∷ [])
@@ -125,7 +126,8 @@ reset_at_a_full_window = refl
 
 -- Bytes in order stay when the connection breaks, and early ones go. The timer stands.
 abbrev before_a_break : Connection
-before_a_break = after_all (at 1 (Commits (7 ∷ [])) ∷ at 1 (gets_data 5001 1001 (1 ∷ 2 ∷ [])) ∷ at 1 (gets_data 5005 1001 (9 ∷ [])) ∷ []) in_established
+before_a_break = after_all (at 1 (Commits (7 ∷ [])) ∷ at 1 (gets_data 5001 1001 (1 ∷ 2 ∷ [])) ∷ at 1 (gets_data 5005 1001 (9 ∷ []))
+    ∷ []) in_established
 
 pub bytes_in_order_stay : shown (play (at 2 (gets_reset 5003) ∷ []) before_a_break) ≡ told Broken 1 2 1024 (1 ∷ 2 ∷ []) 3 1022 None false ([] ∷ [])
 unfolding arrive emitted after_emission

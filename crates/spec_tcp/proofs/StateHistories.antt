@@ -30,7 +30,8 @@ unfolding arrive emitted after_emission
 fin_wait_1_and_2 = refl
 
 -- FIN-WAIT-1 goes on while the data before the FIN is acknowledged, and the FIN isn't.
-pub fin_wait_1_goes_on : passes (at 1 (Commits (7 ∷ [])) ∷ at 1 Shuts ∷ at 2 (gets_ack 5001 1002 1024) ∷ at 3 (gets_ack 5001 1003 1024) ∷ []) in_established
+pub fin_wait_1_goes_on : passes (at 1 (Commits (7 ∷ [])) ∷ at 1 Shuts ∷ at 2 (gets_ack 5001 1002 1024) ∷ at 3 (gets_ack 5001 1003 1024)
+    ∷ []) in_established
     ≡ (Established, last_data 1001 5001 1024 (7 ∷ []) ∷ []) ∷ (FinWait1, fin 1002 5001 1024 ∷ []) ∷ (FinWait1, []) ∷ (FinWait2, []) ∷ []
 unfolding arrive emitted after_emission
 fin_wait_1_goes_on = refl
@@ -67,7 +68,8 @@ unfolding arrive emitted after_emission
 close_wait_and_last_ack = refl
 
 -- CLOSE-WAIT sends data, and LAST-ACK goes on until the FIN past it is acknowledged.
-pub close_wait_sends_data : passes (at 1 (Commits (7 ∷ 8 ∷ [])) ∷ at 2 Shuts ∷ at 3 (gets_ack 5002 1003 1024) ∷ at 4 (gets_ack 5002 1004 1024) ∷ []) in_close_wait
+pub close_wait_sends_data : passes (at 1 (Commits (7 ∷ 8 ∷ [])) ∷ at 2 Shuts ∷ at 3 (gets_ack 5002 1003 1024) ∷ at 4 (gets_ack 5002 1004 1024)
+    ∷ []) in_close_wait
     ≡ (CloseWait, last_data 1001 5002 1024 (7 ∷ 8 ∷ []) ∷ []) ∷ (LastAck, fin 1003 5002 1024 ∷ []) ∷ (LastAck, []) ∷ (Closed, []) ∷ []
 unfolding arrive emitted after_emission
 close_wait_sends_data = refl

@@ -53,7 +53,8 @@ same_place_again = refl
 -- ---- takes
 
 -- The update is owed at exactly half a window past the edge that was told, and not one byte earlier.
-pub take_of_half_a_window : passes (at 1 (gets_data 5001 1001 (replicate 600 7)) ∷ at 2 (Takes 511) ∷ at 3 (Takes 1) ∷ at 4 (Takes 88) ∷ []) in_established
+pub take_of_half_a_window : passes (at 1 (gets_data 5001 1001 (replicate 600 7)) ∷ at 2 (Takes 511) ∷ at 3 (Takes 1) ∷ at 4 (Takes 88)
+    ∷ []) in_established
     ≡ (Established, ack 1001 5601 424 ∷ []) ∷ (Established, []) ∷ (Established, ack 1001 5601 936 ∷ []) ∷ (Established, []) ∷ []
 unfolding arrive emitted after_emission
 take_of_half_a_window = refl
@@ -64,14 +65,18 @@ unfolding arrive emitted after_emission
 take_of_half_a_window_at_once = refl
 
 -- Data that goes out tells the window, and the next update is owed half a window past that.
-pub edge_told_by_data : passes (at 1 (gets_data 5001 1001 (replicate 1024 7)) ∷ at 2 (Takes 511) ∷ at 3 (Commits (1 ∷ [])) ∷ at 4 (Takes 511) ∷ at 5 (Takes 1) ∷ []) in_established
-    ≡ (Established, ack 1001 6025 0 ∷ []) ∷ (Established, []) ∷ (Established, last_data 1001 6025 511 (1 ∷ []) ∷ []) ∷ (Established, []) ∷ (Established, ack 1002 6025 1023 ∷ []) ∷ []
+pub edge_told_by_data : passes (at 1 (gets_data 5001 1001 (replicate 1024 7)) ∷ at 2 (Takes 511) ∷ at 3 (Commits (1 ∷ [])) ∷ at 4 (Takes 511)
+    ∷ at 5 (Takes 1) ∷ []) in_established
+    ≡ (Established, ack 1001 6025 0 ∷ []) ∷ (Established, []) ∷ (Established, last_data 1001 6025 511 (1 ∷ []) ∷ []) ∷ (Established, [])
+    ∷ (Established, ack 1002 6025 1023 ∷ []) ∷ []
 unfolding arrive emitted after_emission
 edge_told_by_data = refl
 
 -- Of a great window 1,460 bytes are enough.
-pub take_of_1460 : passes (at 0 Opens ∷ at 0 (gets_syn_and_ack 5000 1001) ∷ at 1 (gets_data 5001 1001 (replicate 1500 7)) ∷ at 2 (Takes 1459) ∷ at 3 (Takes 1) ∷ []) (open_active mine peer 1000 1024 4096)
-    ≡ (SynSent, goes 1000 0 2 4096 (Some 1460) [] ∷ []) ∷ (Established, ack 1001 5001 4096 ∷ []) ∷ (Established, ack 1001 6501 2596 ∷ []) ∷ (Established, []) ∷ (Established, ack 1001 6501 4056 ∷ []) ∷ []
+pub take_of_1460 : passes (at 0 Opens ∷ at 0 (gets_syn_and_ack 5000 1001) ∷ at 1 (gets_data 5001 1001 (replicate 1500 7)) ∷ at 2 (Takes 1459)
+    ∷ at 3 (Takes 1) ∷ []) (open_active mine peer 1000 1024 4096)
+    ≡ (SynSent, goes 1000 0 2 4096 (Some 1460) [] ∷ []) ∷ (Established, ack 1001 5001 4096 ∷ []) ∷ (Established, ack 1001 6501 2596 ∷ [])
+    ∷ (Established, []) ∷ (Established, ack 1001 6501 4056 ∷ []) ∷ []
 unfolding arrive emitted after_emission
 take_of_1460 = refl
 
