@@ -61,6 +61,12 @@ pub after_a_close : shown (play (at 1 (gets_data 5001 1001 (1 ∷ 2 ∷ 3 ∷ []
 unfolding arrive emitted after_emission
 after_a_close = refl
 
+-- A close of more than half a window alone is not told; the FIN after it tells the window.
+pub close_of_many_bytes : passes (at 1 (gets_data 5001 1001 (replicate 600 7)) ∷ at 2 Closes ∷ at 3 Shuts ∷ []) in_established
+    ≡ (Established, ack 1001 5601 424 ∷ []) ∷ (Established, []) ∷ (FinWait1, fin 1001 5601 1024 ∷ []) ∷ []
+unfolding arrive emitted after_emission
+close_of_many_bytes = refl
+
 -- ---- challenges
 
 -- A SYN is answered by an acknowledgement, within the window and outside it.

@@ -84,6 +84,12 @@ pub not_heard_before_the_ninth : passes (at 200000 (gets_ack 4999 1001 1024) ∷
 unfolding arrive emitted after_emission
 not_heard_before_the_ninth = refl
 
+-- An acknowledgement above SND.NXT is heard.
+pub wrong_ack_is_heard : passes (at 200000 (gets_ack 5001 1007 1024) ∷ at 243000 Ticks ∷ []) (after_all eight_expiries sent_hello)
+    ≡ (Established, ack 1006 5001 1024 ∷ []) ∷ (Established, hello_data ∷ []) ∷ []
+unfolding arrive emitted after_emission
+wrong_ack_is_heard = refl
+
 -- ---- more is acknowledged
 
 -- The time is 1,000 ticks again, from the acknowledgement on, for what is left; it stands once nothing is left.
