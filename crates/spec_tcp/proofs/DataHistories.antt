@@ -87,11 +87,11 @@ pub data_without_ack : passes (at 1 (Arrives (seg 5001 0 8 1024 None (1 ∷ []))
 unfolding arrive emitted after_emission
 data_without_ack = refl
 
--- Data before the window is acknowledged once more, and so is data at a full window, whose acknowledgement is dropped.
-pub data_at_a_full_window : passes (at 1 (gets_data 5001 1001 (replicate 8 7)) ∷ at 2 (Commits (9 ∷ [])) ∷ at 3 (gets_data 5009 1002 (1 ∷ []))
-    ∷ at 4 (gets_data 5001 1002 (7 ∷ [])) ∷ []) with_a_small_window
-    ≡ (Established, ack 1001 5009 0 ∷ []) ∷ (Established, last_data 1001 5009 0 (9 ∷ []) ∷ []) ∷ (Established, ack 1002 5009 0 ∷ [])
-    ∷ (Established, ack 1002 5009 0 ∷ []) ∷ []
+-- Data at a full window, and data before it, is challenged, and its acknowledgement is dropped with it.
+pub data_at_a_full_window : shown (play (at 1 (gets_data 5001 1001 (replicate 8 7)) ∷ at 2 (Commits (9 ∷ []))
+    ∷ at 3 (gets_data 5009 1002 (1 ∷ [])) ∷ at 4 (gets_data 5001 1002 (7 ∷ [])) ∷ []) with_a_small_window)
+    ≡ told Established 1 2 1024 (replicate 8 7) 9 0 (Some 1002) false ((ack 1001 5009 0 ∷ []) ∷ (last_data 1001 5009 0 (9 ∷ []) ∷ [])
+    ∷ (ack 1002 5009 0 ∷ []) ∷ (ack 1002 5009 0 ∷ []) ∷ [])
 unfolding arrive emitted after_emission
 data_at_a_full_window = refl
 
