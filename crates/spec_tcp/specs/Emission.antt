@@ -1,13 +1,13 @@
 -- What a connection sends after an event (RFC 9293, sections 3.8 and 3.10; which segments, and in which order, is this
 -- project's own).
-use Rattle.std.specs.Prelude.{ℕ, zero, suc, ◌+◌, ◌-◌, min, max, Bool, true, false, not, ◌&&◌, ◌||◌, List, [], ◌∷◌, ◌++◌, length, take, drop, map, Option, Some, None, nat_le, nat_lt, ◌==◌, if◌then◌else◌}
+use Rattle.std.specs.Prelude.{ℕ, zero, suc, ◌+◌, ◌-◌, min, max, Bool, true, false, not, ◌&&◌, ◌||◌, List, [], ◌∷◌, ◌++◌, take, drop, map, Option, Some, None, nat_lt, ◌==◌, if◌then◌else◌}
 use Rattle.spec_tcp.specs.declared.state.State.{State}
 use Rattle.spec_tcp.specs.declared.state.State.TheVariants.{SynSent, SynReceived, Established, FinWait1, CloseWait, Closing, LastAck, Broken}
 use Rattle.spec_wire.specs.Segment.{fin_flag, syn_flag, rst_flag, psh_flag, ack_flag}
 use Rattle.spec_wire.specs.Positions.{number_of, nearest}
 use Rattle.spec_tcp.specs.declared.facts.Facts.{Facts}
 use Rattle.spec_tcp.specs.declared.part.Part.{Part}
-use Rattle.spec_tcp.specs.Connection.{Sending, Receiving, Connection, data_end, window}
+use Rattle.spec_tcp.specs.Connection.{Sending, Connection, data_end, window}
 use Rattle.spec_tcp.specs.Timing.{running_from}
 
 -- a segment that goes out, by the length of its data

@@ -1,5 +1,5 @@
 -- Opening, committing, taking, closing, aborting, and the time (RFC 9293, sections 3.9.1 and 3.10).
-use Rattle.std.specs.Prelude.{ℕ, ◌+◌, ◌-◌, ◌/◌, min, Bool, true, false, ◌&&◌, ◌||◌, List, [], length, replicate, Option, Some, None, nat_le, nat_lt, if◌then◌else◌}
+use Rattle.std.specs.Prelude.{ℕ, ◌+◌, ◌/◌, min, Bool, true, false, ◌&&◌, List, [], replicate, None, nat_le, if◌then◌else◌}
 use Rattle.it_types.specs.declared.id.EndPt.{EndPt}
 use Rattle.spec_tcp.specs.declared.state.State.{State}
 use Rattle.spec_tcp.specs.declared.state.State.TheVariants.{SynSent, SynReceived, Established, FinWait1, LastAck, CloseWait}
@@ -9,7 +9,7 @@ use Rattle.spec_tcp.specs.declared.facts.Facts.{Facts}
 use Rattle.spec_tcp.specs.Connection.{Sending, Receiving, Connection, window}
 use Rattle.spec_tcp.specs.Timing.{new_timer, is_due, is_last, after_expiry}
 use Rattle.spec_tcp.specs.Windows.{committed, with_taken, closed}
-use Rattle.spec_tcp.specs.Arrival.{broken, broken_in, owing_if, send_mss, takes_data}
+use Rattle.spec_tcp.specs.Arrival.{broken_in, owing_if, send_mss, takes_data}
 use Rattle.spec_tcp.specs.Emission.{no_facts}
 
 -- ---- opening

@@ -1,5 +1,5 @@
 -- The retransmission timer (RFC 9293, section 3.8.1, with a time of this project's own).
-use Rattle.std.specs.Prelude.{ℕ, ◌+◌, ◌*◌, min, Bool, true, false, Option, Some, None, ◌==◌, nat_le, is_none, if◌then◌else◌}
+use Rattle.std.specs.Prelude.{ℕ, ◌+◌, ◌*◌, min, Bool, false, Option, Some, None, ◌==◌, nat_le, is_none, if◌then◌else◌}
 
 pub record Timer : Type 0 where
   pub rto : ℕ  -- the retransmission time, in ticks
