@@ -4,6 +4,7 @@
 pub mod checksum;
 mod datagram;
 mod laws;
+pub mod octets;
 pub mod pseudo;
 mod reading;
 mod writing;

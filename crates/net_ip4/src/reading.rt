@@ -1,27 +1,12 @@
-ghost use Rattle.std.specs.Prelude.{◌≡◌, ◌≤◌, ◌+◌, ◌↔◌, IsTrue, IfOk, IsOkAnd, Some, None, length};
+ghost use Rattle.std.specs.Prelude.{◌≡◌, ◌≤◌, ◌↔◌, IfOk, IsOkAnd, Some, length};
 ghost use Rattle.spec_wire.specs.Ipv4.{Ipv4, Reads, fields_of, refusal, header_length_of, is_wrong_length, is_wrong_sum, is_fragment, total_length_of};
-ghost use Rattle.spec_wire.specs.Octets.{u16_at, u32_at};
 ghost use Rattle.net_ip4.specs.Shown.{shown};
 
+use crate::octets::{u16_at, u32_at};
 use crate::{Bad, Datagram, checksum};
-use byteorder::{BigEndian, ByteOrder};
 
 // The header without options, in bytes.
 const LEAST_HEADER: usize = 20;
-
-fn u16_at(bytes: &[u8], at: usize) -> u16
-    requires { at + 2 ≤ length bytes.now }
-    ensures { result ≡ u16_at bytes.now at }
-{
-    BigEndian::read_u16(&bytes[at..])
-}
-
-fn u32_at(bytes: &[u8], at: usize) -> u32
-    requires { at + 4 ≤ length bytes.now }
-    ensures { result ≡ u32_at bytes.now at }
-{
-    BigEndian::read_u32(&bytes[at..])
-}
 
 fn header_length(bytes: &[u8]) -> usize
     requires { 20 ≤ length bytes.now }

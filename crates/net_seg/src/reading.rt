@@ -1,5 +1,4 @@
-ghost use Rattle.std.specs.Prelude.{◌≡◌, ◌≤◌, ◌+◌, ◌↔◌, IfOk, IsOkAnd, OnOk, OnErr, Some, None, length, option_map};
-ghost use Rattle.spec_wire.specs.Octets.{u16_at, u32_at};
+ghost use Rattle.std.specs.Prelude.{◌≡◌, ◌≤◌, ◌↔◌, IfOk, IsOkAnd, Some, None, length, option_map};
 ghost use Rattle.spec_wire.specs.Segment as wire;
 ghost use Rattle.spec_wire.specs.Segment.{Reads, fields_of, flags_of, header_length, is_wrong_offset, is_wrong_sum, options_of, refusal};
 ghost use Rattle.net_seg.specs.Shown.{shown, shown_options};
@@ -7,25 +6,11 @@ ghost use Rattle.net_seg.specs.Shown.{shown, shown_options};
 use crate::options::{Options, read_options};
 use crate::{Bad, PROTOCOL, Segment, TcpFlags};
 use bitflags::Flags;
-use byteorder::{BigEndian, ByteOrder};
+use net_ip4::octets::{u16_at, u32_at};
 use net_ip4::pseudo::sum_behind;
 
 // The header without options, in bytes.
 const LEAST_HEADER: usize = 20;
-
-fn u16_at(bytes: &[u8], at: usize) -> u16
-    requires { at + 2 ≤ length bytes.now }
-    ensures { result ≡ u16_at bytes.now at }
-{
-    BigEndian::read_u16(&bytes[at..])
-}
-
-fn u32_at(bytes: &[u8], at: usize) -> u32
-    requires { at + 4 ≤ length bytes.now }
-    ensures { result ≡ u32_at bytes.now at }
-{
-    BigEndian::read_u32(&bytes[at..])
-}
 
 fn header_length(bytes: &[u8]) -> usize
     requires { 20 ≤ length bytes.now }

@@ -1,6 +1,5 @@
-ghost use Rattle.std.specs.Prelude.{◌≡◌, ◌+◌, ◌++◌, OnOk, OnErr, length, take};
-ghost use Rattle.spec_wire.specs.Segment.{checksum_of, header_back, header_front, written, written_options};
-ghost use Rattle.spec_wire.specs.Octets.{u16_octets};
+ghost use Rattle.std.specs.Prelude.{◌≡◌, ◌+◌, ◌++◌, OnOk, OnErr, length};
+ghost use Rattle.spec_wire.specs.Segment.{checksum_of, written, written_options};
 ghost use Rattle.net_seg.specs.Shown.{header_room, shown};
 
 use crate::{PROTOCOL, Segment};

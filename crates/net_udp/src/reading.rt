@@ -1,21 +1,13 @@
-ghost use Rattle.std.specs.Prelude.{◌≡◌, ◌≤◌, ◌+◌, ◌↔◌, IfOk, IsOkAnd, Some, None, length};
-ghost use Rattle.spec_wire.specs.Octets.{u16_at};
+ghost use Rattle.std.specs.Prelude.{◌≡◌, ◌≤◌, ◌↔◌, IfOk, IsOkAnd, Some, length};
 ghost use Rattle.spec_wire.specs.Udp.{UserDatagram, Reads, fields_of, refusal, is_wrong_length, is_wrong_sum, length_of, datagram_of, sum_of};
 ghost use Rattle.net_udp.specs.Shown.{shown};
 
 use crate::{Bad, PROTOCOL, Udp};
-use byteorder::{BigEndian, ByteOrder};
+use net_ip4::octets::u16_at;
 use net_ip4::pseudo::sum_behind;
 
 // The header, in bytes.
 const HEADER: usize = 8;
-
-fn u16_at(bytes: &[u8], at: usize) -> u16
-    requires { at + 2 ≤ length bytes.now }
-    ensures { result ≡ u16_at bytes.now at }
-{
-    BigEndian::read_u16(&bytes[at..])
-}
 
 fn length(bytes: &[u8]) -> usize
     requires { 8 ≤ length bytes.now }

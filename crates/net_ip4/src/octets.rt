@@ -1,0 +1,22 @@
+//! Numbers in the octets of a header, the most significant octet first.
+
+ghost use Rattle.std.specs.Prelude.{◌≡◌, ◌≤◌, ◌+◌, length};
+ghost use Rattle.spec_wire.specs.Octets.{u16_at, u32_at};
+
+use byteorder::{BigEndian, ByteOrder};
+
+/// The number in the two octets from a place on.
+pub fn u16_at(bytes: &[u8], at: usize) -> u16
+    requires { at + 2 ≤ length bytes.now }
+    ensures { result ≡ u16_at bytes.now at }
+{
+    BigEndian::read_u16(&bytes[at..])
+}
+
+/// The number in the four octets from a place on.
+pub fn u32_at(bytes: &[u8], at: usize) -> u32
+    requires { at + 4 ≤ length bytes.now }
+    ensures { result ≡ u32_at bytes.now at }
+{
+    BigEndian::read_u32(&bytes[at..])
+}
