@@ -90,8 +90,8 @@ impl SendWin {
         self.acked += u64::from(n);
     }
 
-    /// Copies the committed bytes from the place `from` on to the front of `out`, as many as there are and as it has room for,
-    /// and answers how many. What lies behind them in `out` stays.
+    /// Copies the bytes that are kept, from the one that stands `from` bytes behind the first of them, to the front of `out`, as
+    /// many as there are and as it has room for, and answers how many. What lies behind them in `out` stays.
     pub fn bytes(&self, from: u32, out: &mut [u8]) -> u32
         ensures copied { out.new ≡ overlaid (drop from self.now.bytes) out.old }
         ensures count { result ≡ min (length self.now.bytes - from) (length out.old) }
